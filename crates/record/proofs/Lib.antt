@@ -1,0 +1,10 @@
+pub mod Groups
+pub mod Scanning
+pub mod Headings
+pub mod Reading
+pub mod Laying
+pub mod Passing
+pub mod OneNumber
+pub mod OneEvent
+pub mod OneHeading
+pub mod Only
