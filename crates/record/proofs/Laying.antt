@@ -6,7 +6,7 @@ use native.Mathlib.Omega.{arith}
 use mathlib.Core.Path.{_≡_, refl, sym, ap, subst, _∙_}
 use mathlib.Core.Logic.{inl, inr}
 use mathlib.Core.List.{List, [], _∷_, _++_, append-assoc, append-nil}
-use lib.ListN.{length, getD, take, drop, set, length-append}
+use lib.ListN.{length, getD, take, drop, set, length-append, length-drop}
 use lib.Seq.{paste}
 use borrow.Rule.Slice.PartMut.{putMid}
 use Rattle.std.proofs.shelf.Parts.{putMid-paste}
@@ -35,6 +35,14 @@ laid-append buf at a b h =
     let after : drop (n + length b) (laid buf at a) ≡ drop (n + length b) buf = sym (drop-drop (length b) n (laid buf at a)) ∙ (ap (drop (length b)) behind ∙ drop-drop (length b) n buf) in
     let total : n + length b ≡ at + length (a ++ b) = omega (arith, length-append a b) in
     (λ i. before i ++ (b ++ after i)) ∙ (append-assoc (take at buf) a (b ++ drop (n + length b) buf) ∙ ap (λ (x : List ℕ). take at buf ++ x) (sym (append-assoc a b (drop (n + length b) buf)) ∙ ap (λ (m : ℕ). (a ++ b) ++ drop m buf) total))
+
+pub laid-length : (buf : List ℕ) (at : ℕ) (bs : List ℕ) → at + length bs ≤ length buf → length (laid buf at bs) ≡ length buf
+laid-length buf at bs h =
+    let n : ℕ = at + length bs in
+    let front : length (take at buf) ≡ at = length-take-le at buf (omega arith) in
+    let all : length (laid buf at bs) ≡ length (take at buf) + length (bs ++ drop n buf) = length-append (take at buf) (bs ++ drop n buf) in
+    let back : length (bs ++ drop n buf) ≡ length bs + length (drop n buf) = length-append bs (drop n buf) in
+    omega (arith, length-drop n buf)
 
 -- one byte, and the rest after it
 pub laid-cons : (buf : List ℕ) (at b : ℕ) (bs : List ℕ) → at < length buf → laid (set buf at b) (at + 1) bs ≡ laid buf at (b ∷ bs)
