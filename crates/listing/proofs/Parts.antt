@@ -19,7 +19,7 @@ use Rattle.record.specs.Heading.{heading}
 use Rattle.record.specs.Events.{numbers-of, event-form, file-form, Writable}
 use Rattle.record.specs.Writes.{laid, Write-refused, Written}
 use Rattle.record.proofs.Laying.{laid-none, laid-append, laid-length}
-use Rattle.listing.specs.Files.{events-form, Fits, Part, event-part, event-parts, file-parts, parts-form, Write-stopped, Parts-written}
+use Rattle.listing.specs.Files.{events-form, Fits, Part, event-part, event-parts, file-parts, parts-form, Write-stopped, Parts-written, File-written}
 
 -- all of ps are written, and `end` is the index after them
 abbrev pub So-written : List Part → List ℕ → ℕ → ℕ → List ℕ → Type 0
@@ -117,32 +117,22 @@ pub events-all : (es : List (Event Cell)) (i : ℕ) (buf : List ℕ) (from end :
 events-all es i buf from end after h so = subst (λ (x : List (Event Cell)). So-written (event-parts x) buf from end after) (take-all i es h) so
 
 -- the parts of a file are its form
-pub file-parts-form : (job : ℕ) (es : List (Event Cell)) → parts-form (file-parts job es) ≡ file-form job es
+file-parts-form : (job : ℕ) (es : List (Event Cell)) → parts-form (file-parts job es) ≡ file-form job es
 file-parts-form job es = ap (λ (x : List ℕ). heading ++ (number-form job ++ x)) (go es)
   where
     go : (ds : List (Event Cell)) → parts-form (event-parts ds) ≡ events-form ds
     go [] = refl
     go (d ∷ ds) = ap (λ (x : List ℕ). event-form d ++ x) (go ds)
 
-pub file-parts-fit : (job : ℕ) (es : List (Event Cell)) → All (λ (p : Part). In-range (p .0)) (file-parts job es) → Fits job es
+file-parts-fit : (job : ℕ) (es : List (Event Cell)) → All (λ (p : Part). In-range (p .0)) (file-parts job es) → Fits job es
 file-parts-fit job es (h, ((j, u), more)) = (j, go es more)
   where
     go : (ds : List (Event Cell)) → All (λ (p : Part). In-range (p .0)) (event-parts ds) → All Writable ds
     go [] k = tt
     go (d ∷ ds) (k, ks) = (k, go ds ks)
 
-pub parts-fit-file : (job : ℕ) (es : List (Event Cell)) → Fits job es → All (λ (p : Part). In-range (p .0)) (file-parts job es)
+parts-fit-file : (job : ℕ) (es : List (Event Cell)) → Fits job es → All (λ (p : Part). In-range (p .0)) (file-parts job es)
 parts-fit-file job es (j, fit) = (tt, ((j, tt), all-map (λ (p : Part). In-range (p .0)) event-part es fit))
-
--- what is written over a buffer that is as long is all that it holds
-pub file-over : (job : ℕ) (es : List (Event Cell)) (buf : List ℕ) (end : ℕ) (after : List ℕ) → So-written (file-parts job es) buf 0 end after → end ≡ length buf → after ≡ file-form job es
-file-over job es buf end after so e =
-    let form : List ℕ = parts-form (file-parts job es) in
-    let none : drop (0 + length form) buf ≡ [] = drop-all (0 + length form) buf (omega (arith, so .2)) in
-    so .3 ∙ (ap (λ (x : List ℕ). form ++ x) none ∙ (append-nil form ∙ file-parts-form job es))
-
-pub file-end : (job : ℕ) (es : List (Event Cell)) (buf : List ℕ) (end : ℕ) (after : List ℕ) → So-written (file-parts job es) buf 0 end after → end ≡ length (file-form job es)
-file-end job es buf end after so = omega (arith, so .2, ap length (file-parts-form job es))
 
 part-fits : (ps : List Part) (p : Part) (qs : List Part) → All (λ (q : Part). In-range (q .0)) (ps ++ (p ∷ qs)) → In-range (p .0)
 part-fits [] p qs h = h .0
@@ -157,10 +147,21 @@ no-room ns bs buf at NoRoom fit h = h .1
 no-room ns bs buf at TooLarge fit h = absurd (h fit)
 
 -- a file whose numbers have a form is refused only for want of room
-pub file-stopped : (job : ℕ) (es : List (Event Cell)) (buf : List ℕ) (r : ByteRefusal) (after : List ℕ) → Write-stopped (file-parts job es) buf 0 r after → Fits job es → length buf < length (file-form job es)
+file-stopped : (job : ℕ) (es : List (Event Cell)) (buf : List ℕ) (r : ByteRefusal) (after : List ℕ) → Write-stopped (file-parts job es) buf 0 r after → Fits job es → length buf < length (file-form job es)
 file-stopped job es buf r after w fit =
     let whole : parts-form (file-parts job es) ≡ parts-form (w .done) ++ (w .part .1 ++ parts-form (w .more)) = ap parts-form (w .split) ∙ parts-append (w .done) (w .part ∷ w .more) in
     let long = ap length whole ∙ (length-append (parts-form (w .done)) (w .part .1 ++ parts-form (w .more)) ∙ ap (λ (n : ℕ). length (parts-form (w .done)) + n) (length-append (w .part .1) (parts-form (w .more)))) in
     let fits : In-range (w .part .0) = part-fits (w .done) (w .part) (w .more) (subst (All (λ (p : Part). In-range (p .0))) (w .split) (parts-fit-file job es fit)) in
     let short : length buf < r .place + length (w .part .1) = no-room (w .part .0) (w .part .1) buf (r .place) (r .fault) fits (w .why) in
     omega (arith, w .place, ap length (file-parts-form job es))
+
+-- the parts of a file are written as the file is
+pub file-written : (job : ℕ) (es : List (Event Cell)) (buf : List ℕ) (r : Result ℕ ByteRefusal) (after : List ℕ) → Parts-written (file-parts job es) buf 0 r after → File-written job es buf r after
+file-written job es buf (Ok end) after (fit, room, is, over) =
+    let form : parts-form (file-parts job es) ≡ file-form job es = file-parts-form job es in
+    (file-parts-fit job es fit, omega arith, omega (arith, ap length form), over ∙ ap (laid buf 0) form)
+file-written job es buf (Err r) after w = file-stopped job es buf r after w
+
+-- a form laid over a buffer that is as long is all that it holds
+pub laid-whole : (buf bs : List ℕ) → length bs ≡ length buf → laid buf 0 bs ≡ bs
+laid-whole buf bs e = ap (λ (x : List ℕ). bs ++ x) (drop-all (0 + length bs) buf (omega arith)) ∙ append-nil bs

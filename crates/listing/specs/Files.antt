@@ -100,3 +100,9 @@ pub record Write-stopped (parts : List Part) (buf : List ℕ) (from : ℕ) (r : 
 abbrev pub Parts-written : List Part → List ℕ → ℕ → Result ℕ ByteRefusal → List ℕ → Type 0
 Parts-written ps buf from (Ok end) after = All (λ p. In-range (p .0)) ps × (from + length (parts-form ps) ≤ length buf) × (end ≡ from + length (parts-form ps)) × (after ≡ laid buf from (parts-form ps))
 Parts-written ps buf from (Err r) after = Write-stopped ps buf from r after
+
+-- a file written from the start of a buffer: all of it, every other byte as before; or a number has no form, or there is
+-- no room
+abbrev pub File-written : ℕ → List (Event Cell) → List ℕ → Result ℕ ByteRefusal → List ℕ → Type 0
+File-written job es buf (Ok end) after = Fits job es × (end ≤ length buf) × (end ≡ length (file-form job es)) × (after ≡ laid buf 0 (file-form job es))
+File-written job es buf (Err r) after = Fits job es → length buf < length (file-form job es)

@@ -8,7 +8,7 @@ ghost use Rattle.std.specs.Vec.{made};
 ghost use Rattle.std.specs.Orderings.{Decides};
 ghost use Rattle.record.specs.Events.{file-form};
 ghost use Rattle.record.specs.Readers.{left-of};
-ghost use Rattle.listing.specs.Files.{Fits, Events-read, Only-listing, Reads-back, Writes-back, event-parts, file-parts, Parts-written};
+ghost use Rattle.listing.specs.Files.{Fits, Events-read, Only-listing, Reads-back, Writes-back, event-parts, file-parts, Parts-written, File-written};
 ghost use Rattle.listing.specs.Listings.{job-of, events-of, fault-of, Lists};
 use model::Cell;
 use model::Event;
@@ -94,7 +94,15 @@ fn write_events(buf: &mut [u8], at: usize, events: &[Event<Cell>]) -> Result<usi
 
 // Writes a file from the start of `buf`; the index after it.
 pub fn write_file(buf: &mut [u8], job: u64, events: &[Event<Cell>]) -> Result<usize, ByteRefusal>
-    ensures written { λ r. ⌜ Parts-written (file-parts job (now (events .entry))) (now (buf .entry)) 0 r (now (buf .exit)) ⌝ }
+    ensures written { λ r. ⌜ File-written job (now (events .entry)) (now (buf .entry)) r (now (buf .exit)) ⌝ }
+    ensures parts { λ r. ⌜ Parts-written (file-parts job (now (events .entry))) (now (buf .entry)) 0 r (now (buf .exit)) ⌝ }
+{
+    write_parts(buf, job, events)
+}
+
+// The same, part by part.
+fn write_parts(buf: &mut [u8], job: u64, events: &[Event<Cell>]) -> Result<usize, ByteRefusal>
+    ensures { λ r. ⌜ Parts-written (file-parts job (now (events .entry))) (now (buf .entry)) 0 r (now (buf .exit)) ⌝ }
 {
     let at = write_heading(buf, 0)?;
     let at = write_job(buf, at, job)?;

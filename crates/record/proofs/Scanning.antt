@@ -59,8 +59,11 @@ module _ (bytes : List ℕ) (i value weight : ℕ) (s : So-far bytes i value wei
   pub weight-fits : i < 9 → weight ≤ 2 ^ 56
   weight-fits h = rw (s .weighs) (weight-le i (omega arith))
 
-  pub value-fits : (c : ℕ) → i < 9 → c < 128 → value + c * weight < weight * 128
-  value-fits c h k = group-fits i c value weight (omega arith) k (s .below) (s .weighs)
+  value-below : (c : ℕ) → i < 9 → c < 128 → value + c * weight < weight * 128
+  value-below c h k = group-fits i c value weight (omega arith) k (s .below) (s .weighs)
+
+  pub value-fits : (c : ℕ) → i < 9 → c < 128 → value + c * weight < 2 ^ 63
+  value-fits c h k = omega (arith, value-below c h k, weight-fits h)
 
   left-over : i < 9 → (k : ℕ) × (s .left ≡ suc k)
   left-over h = go (s .left) refl
@@ -79,7 +82,7 @@ module _ (bytes : List ℕ) (i value weight : ℕ) (s : So-far bytes i value wei
     left = left-over h .0;
     nine = (let n = s .nine in let e = left-over h .1 in omega arith);
     weighs = ap (λ (x : ℕ). x * 128) (s .weighs) ∙ (sym (pow-suc 128 i) ∙ ap (λ (x : ℕ). 128 ^ x) (sym (add-one i)));
-    below = value-fits (getD bytes i 0 % 128) h (omega arith);
+    below = value-below (getD bytes i 0 % 128) h (omega arith);
     held = omega arith;
     goes = all-more (λ x. 128 ≤ x) bytes i 0 l (s .goes) b;
     whole = λ m rest p e. subst (λ (x : ℕ). bytes ≡ number-form x ++ rest) (regroup value weight (getD bytes i 0 % 128) m) (s .whole (getD bytes i 0 % 128 + m * 128) rest (inr (some p)) (shifted m rest p e));
@@ -108,7 +111,7 @@ module _ (bytes : List ℕ) (i value weight : ℕ) (s : So-far bytes i value wei
       let first : drop i bytes ≡ getD bytes i 0 ∷ drop (i + 1) bytes = drop-more bytes i 0 l in
       let form : groups (s .left) (getD bytes i 0) ≡ getD bytes i 0 ∷ [] = ap (λ (k : ℕ). groups k (getD bytes i 0)) (left-over h .1) ∙ groups-last (left-over h .0) (getD bytes i 0) b in
       let all : bytes ≡ number-form (value + getD bytes i 0 * weight) ++ drop (i + 1) bytes = s .whole (getD bytes i 0) (drop (i + 1) bytes) p (first ∙ ap (λ (x : List ℕ). x ++ drop (i + 1) bytes) (sym form)) in
-      (omega (arith, value-fits (getD bytes i 0 % 128) h (omega arith), weight-fits h), subst (λ (x : ℕ). bytes ≡ number-form (value + x * weight) ++ drop (i + 1) bytes) (sym low) all)
+      (value-fits (getD bytes i 0 % 128) h (omega arith), subst (λ (x : ℕ). bytes ≡ number-form (value + x * weight) ++ drop (i + 1) bytes) (sym low) all)
 
   -- a last byte after the first is 0
   pub read-zero : i < 9 → 0 < i → i < length bytes → getD bytes i 0 ≡ 0 → Misformed bytes

@@ -9,8 +9,12 @@ mod writer;
 
 pub use event::read_event;
 pub use fault::ByteFault;
+pub use fault::ByteFaultDebug;
+pub use fault::ByteFaultPartialEq;
 pub use fault::ByteRefusal;
+pub use fault::ByteRefusalDebug;
 pub use fault::ByteRefusalDisplay;
+pub use fault::ByteRefusalPartialEq;
 pub use heading::read_heading;
 pub use number::read_number;
 pub use reader::Reader;

@@ -4,7 +4,7 @@ ghost use Prim.Native.Nat.{_+_, _^_, _<_, _≤_};
 ghost use lib.ListN.{length};
 ghost use Rattle.std.specs.Results.{Cases};
 ghost use Rattle.record.specs.Numbers.{number-form, Number-read, Number-refused};
-ghost use Rattle.record.specs.Laws.{Only-answer};
+ghost use Rattle.record.specs.Laws.{Only-answer, Numbers-apart};
 ghost use Rattle.record.specs.Writes.{laid};
 use crate::fault::ByteFault;
 
@@ -21,6 +21,7 @@ const GROUP: u64 = 128;
 pub fn read_number(bytes: &[u8]) -> Result<(u64, &[u8]), ByteFault>
     ensures answered { λ r. ⌜ Cases r (λ p. Number-read (now (bytes .entry)) (p .0) (now (p .1))) (λ f. Number-refused (now (bytes .entry)) f) ⌝ }
     ensures only { λ r. ⌜ Only-answer Number-read Number-refused (now (bytes .entry)) r ⌝ }
+    ensures apart { λ _. ⌜ Numbers-apart ⌝ }
 {
     number_at(bytes)
 }

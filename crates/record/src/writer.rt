@@ -8,7 +8,7 @@ ghost use Rattle.record.specs.Numbers.{number-form, numbers-form, In-range};
 ghost use Rattle.record.specs.Heading.{heading};
 ghost use Rattle.record.specs.Events.{event-form, numbers-of};
 ghost use Rattle.record.specs.Writes.{laid, Written};
-ghost use Rattle.record.specs.Laws.{Numbers-apart, Events-apart};
+ghost use Rattle.record.specs.Laws.{Events-apart};
 use crate::fault::ByteFault;
 use crate::fault::ByteRefusal;
 use crate::heading::HEADING;
@@ -99,7 +99,6 @@ pub fn write_heading(buf: &mut [u8], at: usize) -> Result<usize, ByteRefusal>
 // Writes a job number at `at`; the index after it.
 pub fn write_job(buf: &mut [u8], at: usize, job: u64) -> Result<usize, ByteRefusal>
     ensures written { λ r. ⌜ Written (job ∷ []) (number-form job) (now (buf .entry)) at r (now (buf .exit)) ⌝ }
-    ensures apart { λ _. ⌜ Numbers-apart ⌝ }
 {
     write_form(buf, at, &[], &[job])
 }
