@@ -1,22 +1,20 @@
 -- Events read one after another: what stands between the start and the reader is the form of those read.
 use Prim.Native.Nat.{ℕ, _+_, _<_}
 use native.Mathlib.Omega.{arith}
-use mathlib.Core.Path.{_≡_, refl, sym, ap, _∙_}
-use mathlib.Core.List.{List, [], _∷_, _++_, append-assoc, append-nil}
+use mathlib.Core.Path.{_≡_, sym, ap, subst, _∙_}
+use mathlib.Core.List.{List, [], _∷_, _++_, append-assoc}
 use lib.ListN.{length, length-append}
 use Rattle.std.specs.shelf.Lists.{All}
-use Rattle.std.specs.Options.{Cases}
+use Rattle.std.specs.declared.result.Result.the-variants.{Ok}
 use Rattle.std.specs.declared.option.Option.{Option}
 use Rattle.std.specs.declared.option.Option.the-variants.{Some}
-use Rattle.std.proofs.shelf.Results.{cases-at-some}
 use Rattle.std.proofs.shelf.Lists.{joined-more}
 use Rattle.std.proofs.shelf.Elements.{all-push}
 use Rattle.model.specs.declared.Cell.{Cell}
 use Rattle.model.specs.declared.Event.{Event}
-use Rattle.record.specs.declared.fault.ByteRefusal.{ByteRefusal}
 use Rattle.record.specs.declared.reader.Reader.{Reader}
-use Rattle.record.specs.Events.{event-form, Writable, Event-refused}
-use Rattle.record.specs.Readers.{left-of, Passed}
+use Rattle.record.specs.Events.{event-form, Writable}
+use Rattle.record.specs.Readers.{left-of, Passed, Event-call}
 use Rattle.listing.specs.Files.{events-form}
 
 -- a reader that went from r over the events es
@@ -44,9 +42,6 @@ walked-more r s t es e w h p =
 pub less-left : (s t : Reader) (e : Event Cell) → Passed s (event-form e) t → length (left-of t) < length (left-of s)
 less-left s t e p = omega (arith, ap length (p .0) ∙ length-append (event-form e) (left-of t))
 
--- what a reader answers where it goes on from s to t: no event at the end, or the next
-abbrev pub Next : Reader → Reader → Option (Event Cell) → Type 0
-Next s t o = Cases o ((left-of s ≡ []) × (t ≡ s)) (λ e. Writable e × Passed s (event-form e) t)
-
-pub next-event : (s t : Reader) (o : Option (Event Cell)) (e : Event Cell) → o ≡ Some e → Next s t o → Writable e × Passed s (event-form e) t
-next-event s t o e is h = cases-at-some ((left-of s ≡ []) × (t ≡ s)) (λ d. Writable d × Passed s (event-form d) t) e is h
+-- a call that answers an event has read it
+pub next-event : (s t : Reader) (o : Option (Event Cell)) (e : Event Cell) → o ≡ Some e → Event-call s (Ok o) t → Writable e × Passed s (event-form e) t
+next-event s t o e is h = let P : Option (Event Cell) → Type 0 = λ x. Event-call s (Ok x) t in subst P is h

@@ -21,11 +21,11 @@ use Rattle.record.specs.Writes.{laid, Write-refused}
 abbrev pub events-form : List (Event Cell) → List ℕ
 events-form es = joined event-form es
 
--- the numbers of a file have a form
+-- each number in the file is at most 2^63 - 1
 abbrev pub Fits : ℕ → List (Event Cell) → Type 0
 Fits job es = (job < 2 ^ 63) × All Writable es
 
--- bs holds the events es, after which f stops them, or which end with it
+-- bs, which begins at place `from`, holds the events es and then bytes that f refuses
 pub record Stopped (from : ℕ) (bs : List ℕ) (es : List (Event Cell)) (f : ByteRefusal) : Type 0 where
   pub rest : List ℕ
   pub cut : bs ≡ events-form es ++ rest
@@ -33,7 +33,7 @@ pub record Stopped (from : ℕ) (bs : List ℕ) (es : List (Event Cell)) (f : By
   pub place : f .place ≡ from + length (events-form es)
   pub why : Event-refused rest (f .fault)
 
--- what stands after the job number, at place `from`: to the end of the file, or to the first fault
+-- bs, which begins at place `from`, holds the events es to its end, or up to what f refuses
 abbrev pub Events-read : ℕ → List ℕ → List (Event Cell) → Option ByteRefusal → Type 0
 Events-read from bs es None = All Writable es × (bs ≡ events-form es)
 Events-read from bs es (Some f) = All Writable es × Stopped from bs es f
@@ -65,6 +65,7 @@ Writes-back bs job es f = (n : ℕ) → job ≡ Some n → f ≡ None → Fits n
 abbrev pub Part : Type 0
 Part = List ℕ × List ℕ
 
+-- the heading holds no number
 abbrev pub heading-part : Part
 heading-part = ([], heading)
 
@@ -74,6 +75,7 @@ job-part job = (job ∷ [], number-form job)
 abbrev pub event-part : Event Cell → Part
 event-part e = (numbers-of e, event-form e)
 
+-- each event is a part
 abbrev pub event-parts : List (Event Cell) → List Part
 event-parts es = map event-part es
 
@@ -81,6 +83,7 @@ event-parts es = map event-part es
 abbrev pub file-parts : ℕ → List (Event Cell) → List Part
 file-parts job es = heading-part ∷ job-part job ∷ event-parts es
 
+-- one part after another
 abbrev pub parts-form : List Part → List ℕ
 parts-form ps = joined (λ p. p .1) ps
 

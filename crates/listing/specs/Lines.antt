@@ -19,6 +19,7 @@ use Rattle.listing.specs.declared.line.Again.the-variants.{Equal, Different}
 use Rattle.listing.specs.declared.line.Line.{Line}
 use Rattle.listing.specs.declared.line.Line.the-variants.{Job, Entry, Summary, Refused}
 
+-- what writing again gave, in a word
 abbrev pub again-text : Again → List ℕ
 again-text Equal = codes "equal"
 again-text Different = codes "different"

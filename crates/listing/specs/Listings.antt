@@ -11,10 +11,12 @@ use Rattle.listing.specs.declared.file.Listing.{Listing}
 use Rattle.listing.specs.declared.file.Listing.the-variants.{NoJob, Job}
 use Rattle.listing.specs.Files.{Listed}
 
+-- the job number, if one was read
 abbrev pub job-of : Listing → Option ℕ
 job-of (NoJob r) = None
 job-of (Job job events fault) = Some job
 
+-- the events that were read
 abbrev pub events-of : Listing → List (Event Cell)
 events-of (NoJob r) = []
 events-of (Job job events fault) = vec-items events

@@ -1,7 +1,6 @@
-// Reading a whole file.
+// Whole files: reading them, and writing them again.
 ghost use mathlib.Core.Path.{_≡_};
-ghost use mathlib.Core.List.{List};
-ghost use Prim.Native.Nat.{_+_, _<_, _≤_};
+ghost use Prim.Native.Nat.{_≤_};
 ghost use lib.ListN.{length};
 ghost use Rattle.std.specs.Of.Vec.{vec-items};
 ghost use Rattle.std.specs.Vec.{made};
@@ -54,7 +53,7 @@ fn read_events(
     }
 }
 
-// Reads a file.
+// Lists a file.
 pub fn list(heap: Global, bytes: &[u8]) -> Result<Listing, AllocError>
     ensures listed { λ r. ⌜ made r (λ l. Lists (now (bytes .entry)) l) ⌝ }
     ensures only { λ r. ⌜ made r (λ l. Only-listing (now (bytes .entry)) (job-of l) (events-of l) (fault-of l)) ⌝ }
@@ -64,6 +63,7 @@ pub fn list(heap: Global, bytes: &[u8]) -> Result<Listing, AllocError>
     read_file(heap, bytes)
 }
 
+// The same: the heading, the job number, and then the events.
 fn read_file(heap: Global, bytes: &[u8]) -> Result<Listing, AllocError>
     ensures { λ r. ⌜ made r (λ l. Lists (now (bytes .entry)) l) ⌝ }
 {

@@ -11,4 +11,5 @@ pub use line::Again;
 pub use line::AgainDisplay;
 pub use line::Line;
 pub use line::LineDisplay;
+pub use text::LIMIT;
 pub use text::lines;

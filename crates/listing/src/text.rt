@@ -21,7 +21,7 @@ use std::alloc::AllocError;
 use std::alloc::Global;
 
 // The most bytes that a file may have.
-const LIMIT: usize = 65_536;
+pub const LIMIT: usize = 65_536;
 
 // Adds a line for each event, with its place.
 fn push_events(lines: &mut Vec<Line>, events: &[Event<Cell>]) -> Result<(), AllocError>

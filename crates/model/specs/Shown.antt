@@ -3,7 +3,7 @@ use Prim.Native.Nat.{ℕ}
 use mathlib.Core.List.{List, _++_}
 use lib.Chars.{codes}
 use Rattle.std.specs.declared.option.Option.{Option}
-use Rattle.std.specs.declared.option.Option.the-variants.{Some, None}
+use Rattle.std.specs.declared.option.Option.the-variants.{Some}
 use Rattle.std.specs.Written.{decimal, then}
 use Rattle.model.specs.declared.Cell.{Cell}
 use Rattle.model.specs.declared.Event.{Event}
@@ -25,6 +25,7 @@ module _ {C : Type 0} (shown : C → Option (List ℕ)) where
   event-shown (Read t c) = then (Some (codes "read ")) (then (Some (decimal t)) (then (Some (codes " ")) (shown c)))
   event-shown (Write t c) = then (Some (codes "write ")) (then (Some (decimal t)) (then (Some (codes " ")) (shown c)))
 
+-- a layer is its name in small letters
 abbrev pub layer-text : Layer → List ℕ
 layer-text Bytes = codes "bytes"
 layer-text Run = codes "run"

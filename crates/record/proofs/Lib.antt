@@ -8,3 +8,4 @@ pub mod OneNumber
 pub mod OneEvent
 pub mod OneHeading
 pub mod Only
+pub mod ByExample

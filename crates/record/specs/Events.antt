@@ -1,5 +1,5 @@
 -- The form of an event and of a whole file, and which bytes begin with an event.
-use Prim.Native.Nat.{ℕ, _+_, _<_, _≤_}
+use Prim.Native.Nat.{ℕ, _<_, _≤_}
 use mathlib.Core.Path.{_≡_}
 use mathlib.Core.Bool.{cond}
 use mathlib.Core.Logic.{_⊎_}
@@ -10,7 +10,7 @@ use Rattle.model.specs.declared.Cell.{Cell}
 use Rattle.model.specs.declared.Event.{Event}
 use Rattle.model.specs.declared.Event.the-variants.{Spawn, End, Open, Close, Read, Write}
 use Rattle.record.specs.declared.fault.ByteFault.{ByteFault}
-use Rattle.record.specs.declared.fault.ByteFault.the-variants.{WrongHeading, Short, BadNumber, UnknownKind, NoRoom, TooLarge}
+use Rattle.record.specs.declared.fault.ByteFault.the-variants.{Short, UnknownKind}
 use Rattle.record.specs.Numbers.{number-form, numbers-form, In-range, Numbers-refused}
 use Rattle.record.specs.Heading.{heading}
 
@@ -40,6 +40,7 @@ count-of k = cond (eqb k 1) 2 (cond (ltb k 5) 1 3)
 abbrev pub Writable : Event Cell → Type 0
 Writable e = In-range (numbers-of e)
 
+-- the kind byte and the forms of the numbers
 abbrev pub event-form : Event Cell → List ℕ
 event-form e = kind-of e ∷ numbers-form (numbers-of e)
 

@@ -10,6 +10,7 @@ use Rattle.record.specs.declared.fault.ByteFault.{ByteFault}
 use Rattle.record.specs.declared.fault.ByteRefusal.{ByteRefusal}
 use Rattle.record.specs.declared.fault.ByteFault.the-variants.{WrongHeading, Short, BadNumber, UnknownKind, NoRoom, TooLarge}
 
+-- the number by which a fault is known
 abbrev pub number-of : ByteFault → ℕ
 number-of WrongHeading = 1
 number-of Short = 2

@@ -10,6 +10,7 @@ use Rattle.record.specs.declared.fault.ByteFault.the-variants.{WrongHeading, S
 abbrev pub heading : List ℕ
 heading = 0x41 ∷ 0x46 ∷ 0x54 ∷ 0x31 ∷ []
 
+-- bs begins with the heading, and rest follows it
 abbrev pub Heading-read : List ℕ → List ℕ → Type 0
 Heading-read bs rest = bs ≡ heading ++ rest
 

@@ -2,6 +2,8 @@ pub mod Faults
 pub mod Numbers
 pub mod Heading
 pub mod Events
-pub mod Writes
+pub mod Answers
 pub mod Laws
 pub mod Readers
+pub mod Writes
+pub mod Examples

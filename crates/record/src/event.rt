@@ -3,7 +3,7 @@ ghost use mathlib.Core.List.{[], _∷_};
 ghost use Rattle.std.specs.Results.{Cases};
 ghost use Rattle.record.specs.Numbers.{Numbers-read, Numbers-refused};
 ghost use Rattle.record.specs.Events.{Event-read, Event-refused};
-ghost use Rattle.record.specs.Laws.{Only-answer};
+ghost use Rattle.record.specs.Answers.{Answer, Only-answer};
 use crate::fault::ByteFault;
 use crate::kind;
 use crate::number::read_number;
@@ -30,7 +30,7 @@ fn read_access(bytes: &[u8]) -> Result<(u64, Cell, &[u8]), ByteFault>
 
 // The event whose kind byte was read, from the bytes after that.
 fn read_body(byte: u8, bytes: &[u8]) -> Result<(Event<Cell>, &[u8]), ByteFault>
-    ensures { λ r. ⌜ Cases r (λ p. Event-read (byte ∷ now (bytes .entry)) (p .0) (now (p .1))) (λ f. Event-refused (byte ∷ now (bytes .entry)) f) ⌝ }
+    ensures { λ r. ⌜ Answer Event-read Event-refused (byte ∷ now (bytes .entry)) r ⌝ }
 {
     match byte {
         kind::SPAWN => {
@@ -63,14 +63,15 @@ fn read_body(byte: u8, bytes: &[u8]) -> Result<(Event<Cell>, &[u8]), ByteFault>
 
 // The event at the front of `bytes`, and the bytes after it.
 pub fn read_event(bytes: &[u8]) -> Result<(Event<Cell>, &[u8]), ByteFault>
-    ensures answered { λ r. ⌜ Cases r (λ p. Event-read (now (bytes .entry)) (p .0) (now (p .1))) (λ f. Event-refused (now (bytes .entry)) f) ⌝ }
+    ensures answered { λ r. ⌜ Answer Event-read Event-refused (now (bytes .entry)) r ⌝ }
     ensures only { λ r. ⌜ Only-answer Event-read Event-refused (now (bytes .entry)) r ⌝ }
 {
     event_at(bytes)
 }
 
+// The same, by its kind byte and what follows it.
 fn event_at(bytes: &[u8]) -> Result<(Event<Cell>, &[u8]), ByteFault>
-    ensures { λ r. ⌜ Cases r (λ p. Event-read (now (bytes .entry)) (p .0) (now (p .1))) (λ f. Event-refused (now (bytes .entry)) f) ⌝ }
+    ensures { λ r. ⌜ Answer Event-read Event-refused (now (bytes .entry)) r ⌝ }
 {
     match bytes.split_first() {
         Some((byte, rest)) => read_body(*byte, rest),

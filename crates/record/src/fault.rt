@@ -24,7 +24,7 @@ pub enum ByteFault {
 
 impl ByteFault {
     pub fn number(self) -> u8
-        ensures { λ r. ⌜ r ≡ number-of self ⌝ }
+        ensures value { λ r. ⌜ r ≡ number-of self ⌝ }
     {
         match self {
             ByteFault::WrongHeading => 1,
@@ -37,7 +37,7 @@ impl ByteFault {
     }
 
     pub fn layer(self) -> Layer
-        ensures { λ r. ⌜ r ≡ layer-of self ⌝ }
+        ensures value { λ r. ⌜ r ≡ layer-of self ⌝ }
     {
         Layer::Bytes
     }

@@ -2,9 +2,10 @@
 ghost use mathlib.Core.Path.{_≡_};
 ghost use Prim.Native.Nat.{_+_, _^_, _<_, _≤_};
 ghost use lib.ListN.{length};
-ghost use Rattle.std.specs.Results.{Cases};
 ghost use Rattle.record.specs.Numbers.{number-form, Number-read, Number-refused};
-ghost use Rattle.record.specs.Laws.{Only-answer, Numbers-apart};
+ghost use Rattle.record.specs.Answers.{Answer, Only-answer};
+ghost use Rattle.record.specs.Laws.{Numbers-apart};
+ghost use Rattle.record.specs.Examples.{Number-examples};
 ghost use Rattle.record.specs.Writes.{laid};
 use crate::fault::ByteFault;
 
@@ -19,16 +20,17 @@ const GROUP: u64 = 128;
 
 // The number at the front of `bytes`, and the bytes after it.
 pub fn read_number(bytes: &[u8]) -> Result<(u64, &[u8]), ByteFault>
-    ensures answered { λ r. ⌜ Cases r (λ p. Number-read (now (bytes .entry)) (p .0) (now (p .1))) (λ f. Number-refused (now (bytes .entry)) f) ⌝ }
+    ensures answered { λ r. ⌜ Answer Number-read Number-refused (now (bytes .entry)) r ⌝ }
     ensures only { λ r. ⌜ Only-answer Number-read Number-refused (now (bytes .entry)) r ⌝ }
     ensures apart { λ _. ⌜ Numbers-apart ⌝ }
+    ensures examples { λ _. ⌜ Number-examples ⌝ }
 {
     number_at(bytes)
 }
 
 // The same, group by group.
 fn number_at(bytes: &[u8]) -> Result<(u64, &[u8]), ByteFault>
-    ensures { λ r. ⌜ Cases r (λ p. Number-read (now (bytes .entry)) (p .0) (now (p .1))) (λ f. Number-refused (now (bytes .entry)) f) ⌝ }
+    ensures { λ r. ⌜ Answer Number-read Number-refused (now (bytes .entry)) r ⌝ }
 {
     let mut value: u64 = 0;
     let mut weight: u64 = 1;

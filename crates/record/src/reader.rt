@@ -3,6 +3,7 @@ ghost use Prim.Native.Nat.{_+_, _^_, _<_};
 ghost use lib.ListN.{length};
 
 mod calls;
+mod stands;
 
 // `place` counts from the start of the file.
 #[derive(Drop)]

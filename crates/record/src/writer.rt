@@ -1,7 +1,7 @@
 // Writing into a lent buffer: the heading, the job number or an event, each whole or not at all.
 ghost use mathlib.Core.Path.{_≡_};
 ghost use mathlib.Core.List.{[], _∷_, _++_};
-ghost use Prim.Native.Nat.{_+_, _*_, _^_, _<_, _≤_};
+ghost use Prim.Native.Nat.{_+_, _*_, _≤_};
 ghost use lib.ListN.{length};
 ghost use Rattle.std.specs.Orderings.{Decides};
 ghost use Rattle.record.specs.Numbers.{number-form, numbers-form, In-range};
@@ -9,6 +9,7 @@ ghost use Rattle.record.specs.Heading.{heading};
 ghost use Rattle.record.specs.Events.{event-form, numbers-of};
 ghost use Rattle.record.specs.Writes.{laid, Written};
 ghost use Rattle.record.specs.Laws.{Events-apart};
+ghost use Rattle.record.specs.Examples.{Event-examples};
 use crate::fault::ByteFault;
 use crate::fault::ByteRefusal;
 use crate::heading::HEADING;
@@ -21,6 +22,7 @@ use model::Event;
 // The largest number that has a form: 2^63 - 1.
 const LARGEST: u64 = 0x7fff_ffff_ffff_ffff;
 
+// Whether each number has a form.
 fn in_range(numbers: &[u64]) -> bool
     ensures { λ r. ⌜ Decides r (In-range (now (numbers .entry))) ⌝ }
 {
@@ -107,6 +109,7 @@ pub fn write_job(buf: &mut [u8], at: usize, job: u64) -> Result<usize, ByteRefus
 pub fn write_event(buf: &mut [u8], at: usize, event: Event<Cell>) -> Result<usize, ByteRefusal>
     ensures written { λ r. ⌜ Written (numbers-of event) (event-form event) (now (buf .entry)) at r (now (buf .exit)) ⌝ }
     ensures apart { λ _. ⌜ Events-apart ⌝ }
+    ensures examples { λ _. ⌜ Event-examples ⌝ }
 {
     write_kind(buf, at, event)
 }

@@ -1,7 +1,6 @@
-use Prim.Native.Nat.{_+_}
 use mathlib.Core.Path.{_≡_}
 use mathlib.Core.List.{_++_}
-use lib.ListN.{length, drop}
+use lib.ListN.{drop}
 use Rattle.std.specs.Of.Vec.{vec-items}
 use Rattle.listing.specs.Lines.{event-lines}
 use Rattle.listing.proofs.text.push_events.Given as given

@@ -1,7 +1,6 @@
 -- The groups that are counted and those that are left are always as many.
-use Prim.Native.Nat.{_+_}
 use native.Mathlib.Omega.{arith}
-use mathlib.Core.Path.{_≡_, ap, sym}
+use mathlib.Core.Path.{ap}
 use lib.ListN.{length}
 use Rattle.record.proofs.Laying.{left-all, left-last, left-more, form-length}
 use Rattle.record.proofs.number.number_width.Needs as need

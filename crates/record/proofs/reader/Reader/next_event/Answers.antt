@@ -1,4 +1,5 @@
-use mathlib.Core.Path.{sym, refl}
+use mathlib.Core.Path.{sym}
+use borrow.Author.Needs.{needs}
 use borrow.Author.Tests.{eqb-true}
 use Rattle.std.proofs.shelf.Lists.{nil-from-length}
 use Rattle.record.specs.Events.{event-form}
@@ -6,7 +7,9 @@ use Rattle.record.proofs.Passing.{rest-within, passed}
 use Rattle.record.proofs.reader.Reader.next_event.Needs as need
 
 pub returns-then-is-empty : need.returns-then-is-empty
-returns-then-is-empty c = record { answered = (nil-from-length _ (eqb-true _ 0 (sym (c .if-is-empty .ensures tt))), refl) }
+returns-then-is-empty c =
+    let none = eqb-true _ 0 (sym (c .if-is-empty .ensures tt)) in
+    search (needs, nil-from-length)
 
 pub pass-requires : need.pass-requires
 pass-requires c κs = rest-within _ (event-form (c .in-Ok .event)) _ (c .in-Ok .ensures tt .answered .1)
