@@ -21,72 +21,76 @@ fn both_ways(number: u64, form: &[u8]) -> Result<(), Fail> {
     check_eq(rest.len(), 11 - form.len())
 }
 
+// Numbers of one, two, three, eight and nine bytes, the smallest and the largest among them.
+const FORMS: [(u64, &[u8]); 12] = [
+    (0, b"\x00"),
+    (1, b"\x01"),
+    (127, b"\x7f"),
+    (128, b"\x80\x01"),
+    (300, b"\xac\x02"),
+    (16_383, b"\xff\x7f"),
+    (16_384, b"\x80\x80\x01"),
+    (0x00ff_ffff_ffff_ffff, b"\xff\xff\xff\xff\xff\xff\xff\x7f"),
+    (
+        0x0100_0000_0000_0000,
+        b"\x80\x80\x80\x80\x80\x80\x80\x80\x01",
+    ),
+    (
+        0x4000_0000_0000_0000,
+        b"\x80\x80\x80\x80\x80\x80\x80\x80\x40",
+    ),
+    (
+        0x7fff_ffff_ffff_fffe,
+        b"\xfe\xff\xff\xff\xff\xff\xff\xff\x7f",
+    ),
+    (
+        0x7fff_ffff_ffff_ffff,
+        b"\xff\xff\xff\xff\xff\xff\xff\xff\x7f",
+    ),
+];
+
 #[test]
 fn forms() -> Result<(), Fail> {
-    let table: [(u64, &[u8]); 12] = [
-        (0, b"\x00"),
-        (1, b"\x01"),
-        (127, b"\x7f"),
-        (128, b"\x80\x01"),
-        (300, b"\xac\x02"),
-        (16_383, b"\xff\x7f"),
-        (16_384, b"\x80\x80\x01"),
-        (0x00ff_ffff_ffff_ffff, b"\xff\xff\xff\xff\xff\xff\xff\x7f"),
-        (
-            0x0100_0000_0000_0000,
-            b"\x80\x80\x80\x80\x80\x80\x80\x80\x01",
-        ),
-        (
-            0x4000_0000_0000_0000,
-            b"\x80\x80\x80\x80\x80\x80\x80\x80\x40",
-        ),
-        (
-            0x7fff_ffff_ffff_fffe,
-            b"\xfe\xff\xff\xff\xff\xff\xff\xff\x7f",
-        ),
-        (
-            0x7fff_ffff_ffff_ffff,
-            b"\xff\xff\xff\xff\xff\xff\xff\xff\x7f",
-        ),
-    ];
-    for (number, form) in table {
+    for (number, form) in FORMS {
         both_ways(number, form)?;
     }
     Ok(())
 }
 
+// Bytes that run out after none, one and eight, and bytes that are no form.
+const REFUSED: [(&[u8], ByteFault); 12] = [
+    (b"", ByteFault::Short),
+    (b"\x80", ByteFault::Short),
+    (b"\xff", ByteFault::Short),
+    (b"\x80\x80\x80\x80\x80\x80\x80\x80", ByteFault::Short),
+    (b"\x80\x00", ByteFault::BadNumber),
+    (b"\xff\x00\x05", ByteFault::BadNumber),
+    (b"\x80\x80\x00", ByteFault::BadNumber),
+    (
+        b"\x80\x80\x80\x80\x80\x80\x80\x80\x00",
+        ByteFault::BadNumber,
+    ),
+    (
+        b"\x80\x80\x80\x80\x80\x80\x80\x80\x80",
+        ByteFault::BadNumber,
+    ),
+    (
+        b"\xff\xff\xff\xff\xff\xff\xff\xff\xff",
+        ByteFault::BadNumber,
+    ),
+    (
+        b"\xff\xff\xff\xff\xff\xff\xff\xff\xff\x01",
+        ByteFault::BadNumber,
+    ),
+    (
+        b"\xff\xff\xff\xff\xff\xff\xff\xff\x80\x01",
+        ByteFault::BadNumber,
+    ),
+];
+
 #[test]
 fn refused() -> Result<(), Fail> {
-    let table: [(&[u8], ByteFault); 12] = [
-        (b"", ByteFault::Short),
-        (b"\x80", ByteFault::Short),
-        (b"\xff", ByteFault::Short),
-        (b"\x80\x80\x80\x80\x80\x80\x80\x80", ByteFault::Short),
-        (b"\x80\x00", ByteFault::BadNumber),
-        (b"\xff\x00\x05", ByteFault::BadNumber),
-        (b"\x80\x80\x00", ByteFault::BadNumber),
-        (
-            b"\x80\x80\x80\x80\x80\x80\x80\x80\x00",
-            ByteFault::BadNumber,
-        ),
-        (
-            b"\x80\x80\x80\x80\x80\x80\x80\x80\x80",
-            ByteFault::BadNumber,
-        ),
-        (
-            b"\xff\xff\xff\xff\xff\xff\xff\xff\xff",
-            ByteFault::BadNumber,
-        ),
-        (
-            b"\xff\xff\xff\xff\xff\xff\xff\xff\xff\x01",
-            ByteFault::BadNumber,
-        ),
-        (
-            b"\xff\xff\xff\xff\xff\xff\xff\xff\x80\x01",
-            ByteFault::BadNumber,
-        ),
-    ];
-    for (bytes, fault) in table {
+    for (bytes, fault) in REFUSED {
         match read_number(bytes) {
             Ok(_) => return Err(Fail::new("read, and should have been refused")),
             Err(found) => check_eq(found, fault)?,
