@@ -23,6 +23,7 @@ pub enum ByteFault {
 }
 
 impl ByteFault {
+    // The number by which the fault is known.
     pub fn number(self) -> u8
         ensures value { λ r. ⌜ r ≡ number-of self ⌝ }
     {
@@ -36,6 +37,7 @@ impl ByteFault {
         }
     }
 
+    // The layer that it comes from: the writer's 6 too is one of the bytes.
     pub fn layer(self) -> Layer
         ensures value { λ r. ⌜ r ≡ layer-of self ⌝ }
     {
@@ -43,7 +45,7 @@ impl ByteFault {
     }
 }
 
-// A fault, and the first byte of the heading, job number or event that it is of.
+// A fault and its place: on reading the first byte of the heading, the job number or the event; on writing the index.
 #[derive(Clone, Copy, PartialEq, Eq, Debug)]
 pub struct ByteRefusal {
     pub fault: ByteFault,
