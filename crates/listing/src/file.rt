@@ -92,8 +92,9 @@ fn write_events(buf: &mut [u8], at: usize, events: &[Event<Cell>]) -> Result<usi
     Ok(next)
 }
 
-// Writes a file from the start of `buf`; the index after it.
-pub fn write_file(buf: &mut [u8], job: u64, events: &[Event<Cell>]) -> Result<usize, ByteRefusal>
+// Writes a file from the start of `buf`; the index after it. The parts before one that is refused stay written, so the
+// buffer is never a caller's.
+fn write_file(buf: &mut [u8], job: u64, events: &[Event<Cell>]) -> Result<usize, ByteRefusal>
     ensures written { λ r. ⌜ File-written job (now (events .entry)) (now (buf .entry)) r (now (buf .exit)) ⌝ }
     ensures parts { λ r. ⌜ Parts-written (file-parts job (now (events .entry))) (now (buf .entry)) 0 r (now (buf .exit)) ⌝ }
 {

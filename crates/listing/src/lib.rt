@@ -5,7 +5,6 @@ mod text;
 
 pub use file::Listing;
 pub use file::list;
-pub use file::write_file;
 pub use file::written_again;
 pub use line::Again;
 pub use line::AgainDisplay;
