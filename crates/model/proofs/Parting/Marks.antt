@@ -122,7 +122,7 @@ module _ {C : Type 0} (k : CellKind C) (lim : ℕ) where
         → T (m.earlier (step_at h a) here) ⊎ T (m.earlier here (step_at h a))
     ways a f n =
         let r = f a refl in
-        some_way h s.1 (step_at h a) here (step_held h s.1 a (at_lt h a r.0 r.1)) (cur_held h s.1 t s.0.is_Known) n
+        some_way h s.1 (step_at h a) here (step_held h s.1 a (at_lt h a r.0 r.1)) (cur_held h s.1 t s.0.is_known) n
 
     left_go : (o : Option ℕ) → ((i : ℕ) → o ≡ Some i → Accessed k h i)
         → mark_at (Read t c ∷ h) (next_left lim h t o) ≡ Some (new_left m here (length h) (mark_at h o))

@@ -72,7 +72,7 @@ module _ {C : Type 0} (k : CellKind C) (lim : ℕ) where
         let an_access = subst (λ x. T (is_access x)) (sym r.1) a in
         ap (step_at (e ∷ h)) r.0
         ∙ (step_at_top h e
-        ∙ (step_now_is h s.1 (actor e) s.0.is_Known
+        ∙ (step_now_is h s.1 (actor e) s.0.is_known
         ∙ (sym (event_access h e an_access) ∙ sym (cond_eq i (length h) _ _ r.0)))))
     | inr r ↦ step_at_old h e i r.0 ∙ (step_at_place h s.1 i d r.1 a ∙ sym (place_step_old k lim h e i r.0))
   ]

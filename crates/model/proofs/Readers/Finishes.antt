@@ -251,9 +251,9 @@ module _ {C : Type 0} (k : CellKind C) (lim : ℕ) where
   unknown_own (Spawn a u ∷ h) s t n = unknown_own h s.1 t (λ q. n (known_old k h (Spawn a u) t q))
   unknown_own (End a ∷ h) s t n = unknown_own h s.1 t n
   unknown_own (Open a ∷ h) s t n =
-      cond_ne t a _ _ (λ p. n (subst (λ x. Known k h x) (sym p) s.0.is_Known)) ∙ unknown_own h s.1 t n
+      cond_ne t a _ _ (λ p. n (subst (λ x. Known k h x) (sym p) s.0.is_known)) ∙ unknown_own h s.1 t n
   unknown_own (Close a ∷ h) s t n =
-      cond_ne t a _ _ (λ p. n (subst (λ x. Known k h x) (sym p) s.0.is_Known)) ∙ unknown_own h s.1 t n
+      cond_ne t a _ _ (λ p. n (subst (λ x. Known k h x) (sym p) s.0.is_known)) ∙ unknown_own h s.1 t n
   unknown_own (Read a c ∷ h) s t n = unknown_own h s.1 t n
   unknown_own (Write a c ∷ h) s t n = unknown_own h s.1 t n
 
@@ -262,7 +262,7 @@ module _ {C : Type 0} (k : CellKind C) (lim : ℕ) where
   ended_known [] s t q = absurd q
   ended_known (Spawn a u ∷ h) s t q = known_old k h (Spawn a u) t (ended_known h s.1 t q)
   ended_known (End a ∷ h) s t q = elim (or_of (eqb t a) (ended h t) q) [
-    | inl p ↦ subst (λ x. Known k h x) (sym (eqb→eq t a p)) s.0.is_Known
+    | inl p ↦ subst (λ x. Known k h x) (sym (eqb→eq t a p)) s.0.is_known
     | inr r ↦ ended_known h s.1 t r
   ]
   ended_known (Open a ∷ h) s t q = ended_known h s.1 t q

@@ -119,23 +119,23 @@ module _ {C : Type 0} (k : CellKind C) (lim : ℕ) where
   task_of_is [] s t p = refl
   task_of_is (Spawn a u ∷ h) s t p = elim (cases_eq t u) [
     | inl tu ↦ cond_eq (number (Spawn a u ∷ h) t) (keeper h).tasks _ _ (cond_eq t u (spawns h + 1) (number h t) tu ∙ sym (tasks_is h))
-        ∙ (ap (child_task (keeper h).steps) (task_of_is h s.1 a s.0.is_Known) ∙ sym (cond_eq t u _ _ tu))
+        ∙ (ap (child_task (keeper h).steps) (task_of_is h s.1 a s.0.is_known) ∙ sym (cond_eq t u _ _ tu))
     | inr n ↦ (
         let known_t = known_in h a u t p n in
         let same = cond_ne t u (spawns h + 1) (number h t) n in
         cond_ne (number (Spawn a u ∷ h) t) (keeper h).tasks _ _ (λ x. let l = number_le h t in let y = tasks_is h in omega arith)
         ∙ (ap (retask (keeper h).task (number h a) (spawner_task ((keeper h).steps + 1) ((keeper h).task (number h a)))) same
-        ∙ (retask_tie h s.1 t a _ _ known_t s.0.is_Known
-        (ap (spawner_task ((keeper h).steps + 1)) (task_of_is h s.1 a s.0.is_Known)) (task_of_is h s.1 t known_t)
+        ∙ (retask_tie h s.1 t a _ _ known_t s.0.is_known
+        (ap (spawner_task ((keeper h).steps + 1)) (task_of_is h s.1 a s.0.is_known)) (task_of_is h s.1 t known_t)
         ∙ sym (cond_ne t u _ _ n))))
   ]
   task_of_is (End a ∷ h) s t p =
-      retask_tie h s.1 t a _ _ p s.0.is_Known (ap ended_task (task_of_is h s.1 a s.0.is_Known)) (task_of_is h s.1 t p)
+      retask_tie h s.1 t a _ _ p s.0.is_known (ap ended_task (task_of_is h s.1 a s.0.is_known)) (task_of_is h s.1 t p)
   task_of_is (Open a ∷ h) s t p =
-      retask_tie h s.1 t a _ _ p s.0.is_Known
-      (ap (opened_task (keeper h).steps (keeper h).finishes) (task_of_is h s.1 a s.0.is_Known)) (task_of_is h s.1 t p)
+      retask_tie h s.1 t a _ _ p s.0.is_known
+      (ap (opened_task (keeper h).steps (keeper h).finishes) (task_of_is h s.1 a s.0.is_known)) (task_of_is h s.1 t p)
   task_of_is (Close a ∷ h) s t p =
-      retask_tie h s.1 t a _ _ p s.0.is_Known
-      (ap (closed_task (keeper h).steps) (task_of_is h s.1 a s.0.is_Known)) (task_of_is h s.1 t p)
+      retask_tie h s.1 t a _ _ p s.0.is_known
+      (ap (closed_task (keeper h).steps) (task_of_is h s.1 a s.0.is_known)) (task_of_is h s.1 t p)
   task_of_is (Read a c ∷ h) s t p = task_of_is h s.1 t p
   task_of_is (Write a c ∷ h) s t p = task_of_is h s.1 t p

@@ -225,12 +225,12 @@ module _ {C : Type 0} (k : CellKind C) (lim : ℕ) where
   owner_now (Write a c ∷ h) s t q = owner_now h s.1 t q
 
   owner_event : (h : Past C) (e : Event C) → Sound k (e ∷ h) → owner (e ∷ h) (event_step h e) ≡ actor e
-  owner_event h (Spawn a u) s = owner_old h (Spawn a u) (now h a) (now_lt h a) ∙ owner_now h s.1 a s.0.is_Known
-  owner_event h (End a) s = owner_now h s.1 a s.0.is_Known
-  owner_event h (Open a) s = owner_old h (Open a) (now h a) (now_lt h a) ∙ owner_now h s.1 a s.0.is_Known
+  owner_event h (Spawn a u) s = owner_old h (Spawn a u) (now h a) (now_lt h a) ∙ owner_now h s.1 a s.0.is_known
+  owner_event h (End a) s = owner_now h s.1 a s.0.is_known
+  owner_event h (Open a) s = owner_old h (Open a) (now h a) (now_lt h a) ∙ owner_now h s.1 a s.0.is_known
   owner_event h (Close a) s = cond_eq (keeper h).steps (keeper h).steps _ _ refl
-  owner_event h (Read a c) s = owner_now h s.1 a s.0.is_Known
-  owner_event h (Write a c) s = owner_now h s.1 a s.0.is_Known
+  owner_event h (Read a c) s = owner_now h s.1 a s.0.is_known
+  owner_event h (Write a c) s = owner_now h s.1 a s.0.is_known
 
   -- a place's step belongs to the task of its event
   pub owner_place : (h : Past C) → Sound k h → (i : ℕ) (d : Event C) → at h i ≡ Some d → owner h (place_step h i) ≡ actor d
@@ -264,7 +264,7 @@ module _ {C : Type 0} (k : CellKind C) (lim : ℕ) where
   -- a task that ends is in its home
   end_head : (h : Past C) (a : ℕ) → Sound k (End a ∷ h) → head_or ((keeper h).task (number h a)).finishes 0 ≡ finish_number h (home h a)
   end_head h a s =
-      head_is k lim h s.1 a s.0.is_Known s.0.runs
+      head_is k lim h s.1 a s.0.is_known s.0.runs
       ∙ ap (λ l. finish_number h (innermost_of a l (home h a))) (empty_is (own h a) s.0.extra)
 
   pub last_step_of : (h : Past C) → Sound k h → (f l : ℕ) → T ((keeper h).last f l) → LastStep h f l
@@ -279,7 +279,7 @@ module _ {C : Type 0} (k : CellKind C) (lim : ℕ) where
           a,
           at_top h (End a),
           sym (end_head h a s) ∙ sym (eqb→eq f inner (and_l (eqb f inner) (eqb l c) p)),
-          place_step_top h (End a) ∙ (sym (current_is h s.1 a s.0.is_Known) ∙ sym (eqb→eq l c (and_r (eqb f inner) (eqb l c) p))),
+          place_step_top h (End a) ∙ (sym (current_is h s.1 a s.0.is_known) ∙ sym (eqb→eq l c (and_r (eqb f inner) (eqb l c) p))),
         )
         | inr p ↦ last_step_keep h (End a) s f l (last_step_of h s.1 f l p)
       ]
@@ -305,7 +305,7 @@ module _ {C : Type 0} (k : CellKind C) (lim : ℕ) where
       let c = ((keeper h).task (number h w)).current in
       or_l (eqb f inner && eqb (now h w) c) ((keeper h).last f (now h w))
       (and_in (eqb f inner) (eqb (now h w) c) (eqb_in f inner (sym (end_head h w s)))
-      (eqb_in (now h w) c (sym (current_is h s.1 w s.0.is_Known))))
+      (eqb_in (now h w) c (sym (current_is h s.1 w s.0.is_known))))
 
   pub last_step_by : (h : Past C) → Sound k h → (i w : ℕ) → at h i ≡ Some (End w)
       → T ((keeper h).last (finish_number h (home h w)) (place_step h i))
@@ -313,7 +313,7 @@ module _ {C : Type 0} (k : CellKind C) (lim : ℕ) where
   last_step_by (e ∷ h) s i w q = elim (at_case h e i (End w) q) [
     | inl r ↦
         let s' : Sound k (End w ∷ h) = subst (λ x. Sound k (x ∷ h)) r.1 s in
-        there s'.0.is_Known (event_step h e) (cond_eq i (length h) _ _ r.0)
+        there s'.0.is_known (event_step h e) (cond_eq i (length h) _ _ r.0)
         (subst (λ x. T ((keeper (x ∷ h)).last (finish_number h (home h w)) (event_step h x))) (sym r.1) (last_step_top h w s'))
     | inr r ↦ there (actor_known k h s.1 i (End w) r.1) (place_step h i) (place_step_old h e i r.0)
         (last_step_more h e (finish_number h (home h w)) (place_step h i) (last_step_by h s.1 i w r.1))

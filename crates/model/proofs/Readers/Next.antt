@@ -37,7 +37,7 @@ module _ {C : Type 0} (k : CellKind C) (lim : ℕ) where
   step_done_on [] s i l = absurd (omega arith)
   step_done_on (e ∷ h) s i l = elim (cases_eq i (length h)) [
     | inl p ↦ ap (step_at (e ∷ h)) p
-        ∙ (step_at_top k lim h e ∙ (step_now_is k lim h s.1 (actor e) s.0.is_Known ∙ sym (cond_eq i (length h) _ _ p)))
+        ∙ (step_at_top k lim h e ∙ (step_now_is k lim h s.1 (actor e) s.0.is_known ∙ sym (cond_eq i (length h) _ _ p)))
     | inr n ↦ (
         let li : i < length h = omega arith in
         step_at_old k lim h e i li ∙ (step_done_on h s.1 i li ∙ sym (done_on_old k lim h e i li)))
@@ -164,7 +164,7 @@ module _ {C : Type 0} (k : CellKind C) (lim : ℕ) (laws : (limit : ℕ) (m : Or
     before_of : (j : ℕ) → T (is_unordered k h c j) → Upto h (done_on h j) here → T (before h' j (length h))
     before_of j m u =
         let d = unordered_of k h c j m in
-        upto_access k lim laws h (Read t c) s.1 s.0.is_Known j d.0 d.1 (reads_access k c d.0 d.2) u
+        upto_access k lim laws h (Read t c) s.1 s.0.is_known j d.0 d.1 (reads_access k c d.0 d.2) u
 
     of_before : (j : ℕ) → T (is_unordered k h c j) → T (before h' j (length h)) → Upto h (done_on h j) here
     of_before j m b =
@@ -252,7 +252,7 @@ module _ {C : Type 0} (k : CellKind C) (lim : ℕ) (laws : (limit : ℕ) (m : Or
           let x = step_at h a in
           let y = step_now h t in
           let sx = step_done_on k lim h s.1 a (unordered_lt k h c a (move.old.some_of a q).0) in
-          let sy = step_now_is k lim h s.1 t s.0.is_Known in
+          let sy = step_now_is k lim h s.1 t s.0.is_known in
           let up = at_or_before (order_of lim h) y x in
           elim (tried up) [
             | inl u ↦ on (subst₂ (Upto h) sx sy u) ∙ sym (cond_yes up _ _ u)

@@ -104,7 +104,7 @@ module _ {C : Type 0} (k : CellKind C) (lim : ℕ) where
       → (task_of k lim h t).finishes ≡ finish_numbers h t
   task_of_finishes [] s t q n = refl
   task_of_finishes (Spawn a u ∷ h) s t q n =
-      let of_spawner = task_of_finishes h s.1 a s.0.is_Known s.0.runs in
+      let of_spawner = task_of_finishes h s.1 a s.0.is_known s.0.runs in
       elim (cases_eq t u) [
         | inl p ↦ (
             let none = unknown_own k lim h s.1 t (λ z. s.0.extra (subst (λ x. Known k h x) p z)) in
@@ -127,7 +127,7 @@ module _ {C : Type 0} (k : CellKind C) (lim : ℕ) where
   ]
   task_of_finishes (Open a ∷ h) s t q n = elim (cases_eq t a) [
     | inl p ↦ (
-        let of_opener = task_of_finishes h s.1 a s.0.is_Known s.0.runs ∙ ap (finish_numbers h) (sym p) in
+        let of_opener = task_of_finishes h s.1 a s.0.is_known s.0.runs ∙ ap (finish_numbers h) (sym p) in
         same_finishes (cond_eq t a _ _ p)
         ∙ (ap (λ l. (keeper h).finishes ∷ l) of_opener
         ∙ (ap (λ x. x ∷ finish_numbers h t) (sym (number_opened h a t p))
@@ -140,7 +140,7 @@ module _ {C : Type 0} (k : CellKind C) (lim : ℕ) where
   ]
   task_of_finishes (Close a ∷ h) s t q n = elim (cases_eq t a) [
     | inl p ↦ same_finishes (cond_eq t a _ _ p)
-        ∙ (ap rest (task_of_finishes h s.1 a s.0.is_Known s.0.runs)
+        ∙ (ap rest (task_of_finishes h s.1 a s.0.is_known s.0.runs)
         ∙ (finish_numbers_rest h a (own h a) _ s.0.extra.0
         ∙ (ap (λ x. numbers_with k lim h x (rest (own h x))) (sym p)
         ∙ ap (numbers_with k lim (Close a ∷ h) t) (sym (cond_eq t a (rest (own h t)) (own h t) p)))))
@@ -168,7 +168,7 @@ module _ {C : Type 0} (k : CellKind C) (lim : ℕ) where
   runs_now h s t q n = same-T (sym (task_running h s t q)) (not_T (ended h t) n)
 
   actor_running : (h : Past C) (e : Event C) → Sound k (e ∷ h) → T ((keeper h).task (number h (actor e))).running
-  actor_running h e s = runs_now h s.1 (actor e) s.0.is_Known s.0.runs
+  actor_running h e s = runs_now h s.1 (actor e) s.0.is_known s.0.runs
 
   -- who lives in a finish: a task that is known and has not ended, by the keeper's numbers
   abbrev pub Resident : Past C → ℕ → ℕ → Type 0
@@ -186,7 +186,7 @@ module _ {C : Type 0} (k : CellKind C) (lim : ℕ) where
           λ z. s.0.extra (ended_known k lim h s.1 u z),
           cond_eq u u _ _ refl ∙ (sym (tasks_is k lim h) ∙ sym (eqb→eq n next (and_r (eqb f inner) (eqb n next) p))),
           ap (finish_number h) (home_new h a u u refl)
-              ∙ (sym (head_is h s.1 a s.0.is_Known s.0.runs) ∙ sym (eqb→eq f inner (and_l (eqb f inner) (eqb n next) p))),
+              ∙ (sym (head_is h s.1 a s.0.is_known s.0.runs) ∙ sym (eqb→eq f inner (and_l (eqb f inner) (eqb n next) p))),
         )
         | inr p ↦ (
             let r = lives_of h s.1 f n p in
@@ -227,7 +227,7 @@ module _ {C : Type 0} (k : CellKind C) (lim : ℕ) where
       elim (cases_eq u v) [
         | inl q ↦ or_l (eqb f inner && eqb m (keeper h).tasks) ((keeper h).lives f m)
             (and_in (eqb f inner) (eqb m (keeper h).tasks)
-            (eqb_in f inner (ap (finish_number h) (home_new h a v u q) ∙ sym (head_is h s.1 a s.0.is_Known s.0.runs)))
+            (eqb_in f inner (ap (finish_number h) (home_new h a v u q) ∙ sym (head_is h s.1 a s.0.is_known s.0.runs)))
             (eqb_in m (keeper h).tasks (cond_eq u v _ _ q ∙ sym (tasks_is k lim h))))
         | inr q ↦ or_r (eqb f inner && eqb m (keeper h).tasks) ((keeper h).lives f m)
             (subst (λ x. T ((keeper h).lives f x)) (sym (cond_ne u v (spawns h + 1) (number h u) q))
@@ -240,7 +240,7 @@ module _ {C : Type 0} (k : CellKind C) (lim : ℕ) where
       (lives_by h s.1 u p (λ z. n (or_r (eqb u a) (ended h u) z)))
     where
       same : T (eqb (number h u) (number h a)) → u ≡ a
-      same z = number_inj k lim h s.1 u a p s.0.is_Known (eqb→eq (number h u) (number h a) z)
+      same z = number_inj k lim h s.1 u a p s.0.is_known (eqb→eq (number h u) (number h a) z)
   lives_by (Open a ∷ h) s u p n =
       subst (λ x. T ((keeper h).lives x (number h u))) (sym (finish_number_old k lim h (Open a) (home h u) (home_has h u)))
       (lives_by h s.1 u p n)
@@ -299,7 +299,7 @@ module _ {C : Type 0} (k : CellKind C) (lim : ℕ) where
   keeper_reached (Spawn a u ∷ h) s = by_spawn (keeper h) (number h a) (keeper_reached h s.1) (actor_running h (Spawn a u) s)
   keeper_reached (End a ∷ h) s =
       by_end (keeper h) (number h a) (finish_number h (home h a)) (keeper_reached h s.1) (actor_running h (End a) s)
-      (task_finishes h s.1 a s.0.is_Known s.0.runs ∙ ap (numbers_with k lim h a) (empty_is (own h a) s.0.extra))
+      (task_finishes h s.1 a s.0.is_known s.0.runs ∙ ap (numbers_with k lim h a) (empty_is (own h a) s.0.extra))
   keeper_reached (Open a ∷ h) s = by_open (keeper h) (number h a) (keeper_reached h s.1) (actor_running h (Open a) s)
   keeper_reached (Close a ∷ h) s =
       let o = full_is (own h a) s.0.extra.0 in
@@ -307,7 +307,7 @@ module _ {C : Type 0} (k : CellKind C) (lim : ℕ) where
       let i : innermost h a ≡ opened_by a o.0 = ap (λ l. innermost_of a l (home h a)) o.2 in
       by_close (keeper h) (number h a) (finish_number h (innermost h a)) c.0 c.1 (keeper_reached h s.1)
       (actor_running h (Close a) s)
-      (task_finishes h s.1 a s.0.is_Known s.0.runs
+      (task_finishes h s.1 a s.0.is_known s.0.runs
       ∙ (ap (numbers_with k lim h a) o.2
       ∙ (ap (λ l. finish_number h (opened_by a o.0) ∷ l) c.2 ∙ ap (λ f. finish_number h f ∷ (c.0 ∷ c.1)) (sym i))))
       (no_lives h s.1 a o.0 i s.0.extra.1)

@@ -143,7 +143,7 @@ module _ {C : Type 0} (k : CellKind C) where
   )
   reach_first whole (e ∷ h) s ext w kw = elim (known_new k h e w kw) [
     | inl m ↦ (
-        let r = reach_first whole h s.1 (λ i d p. ext i d (at_grow h e i d p)) (actor e) s.0.is_Known in
+        let r = reach_first whole h s.1 (λ i d p. ext i d (at_grow h e i d p)) (actor e) s.0.is_known in
         let sp = is_spawn e w m in (
           suc r.0,
           (let l = r.1 in omega arith),

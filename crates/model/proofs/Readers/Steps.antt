@@ -58,7 +58,7 @@ module _ {C : Type 0} (k : CellKind C) (lim : ℕ) (laws : (limit : ℕ) (m : Or
   pub spawn_upto : (h : Past C) (a u : ℕ) → Sound k (Spawn a u ∷ h) → (x y : ℕ) → (y ≡ (keeper h).steps) ⊎ (y ≡ (keeper h).steps + 1)
       → Upto h x (now h a) → Upto (Spawn a u ∷ h) x y
   spawn_upto h a u s x y new up =
-      upto_before (Spawn a u ∷ h) x y (same-T (sym (spawn_new k lim h s.1 a u s.0.is_Known x y new)) up)
+      upto_before (Spawn a u ∷ h) x y (same-T (sym (spawn_new k lim h s.1 a u s.0.is_known x y new)) up)
 
   -- a known task's step only moves on
   pub now_grows : (h : Past C) (e : Event C) → Sound k (e ∷ h) → (t : ℕ) → Known k h t → Upto (e ∷ h) (now h t) (now (e ∷ h) t)
@@ -75,13 +75,13 @@ module _ {C : Type 0} (k : CellKind C) (lim : ℕ) (laws : (limit : ℕ) (m : Or
   now_grows h (Open a) s t q = elim (cases_eq t a) [
     | inl p ↦ upto_before (Open a ∷ h) (now h t) (now (Open a ∷ h) t)
         (subst (λ y. StepBefore (Open a ∷ h) (now h t) y) (sym (now_open k lim h a t p))
-        (same-T (sym (open_new k lim h s.1 a s.0.is_Known (now h t))) (upto_refl h (now h t) (now h a) (ap (now h) p))))
+        (same-T (sym (open_new k lim h s.1 a s.0.is_known (now h t))) (upto_refl h (now h t) (now h a) (ap (now h) p))))
     | inr m ↦ upto_refl (Open a ∷ h) (now h t) (now (Open a ∷ h) t) (sym (now_other k lim h (Open a) t m (λ z. z)))
   ]
   now_grows h (Close a) s t q = elim (cases_eq t a) [
     | inl p ↦ upto_before (Close a ∷ h) (now h t) (now (Close a ∷ h) t)
         (subst (λ y. StepBefore (Close a ∷ h) (now h t) y) (sym (now_close k lim h a t p))
-        (same-T (sym (close_new k lim h s.1 a s.0.is_Known s.0.runs (now h t)))
+        (same-T (sym (close_new k lim h s.1 a s.0.is_known s.0.runs (now h t)))
         (or_l (is_upto k lim h (now h t) (now h a)) _ (upto_refl h (now h t) (now h a) (ap (now h) p)))))
     | inr m ↦ upto_refl (Close a ∷ h) (now h t) (now (Close a ∷ h) t) (sym (now_other k lim h (Close a) t m (λ z. z)))
   ]
@@ -90,12 +90,12 @@ module _ {C : Type 0} (k : CellKind C) (lim : ℕ) (laws : (limit : ℕ) (m : Or
 
   -- an event's step is up to its task's next one, and up to the first one of the task that it makes
   event_actor : (h : Past C) (e : Event C) → Sound k (e ∷ h) → Upto (e ∷ h) (event_step h e) (now (e ∷ h) (actor e))
-  event_actor h (Spawn a u) s = now_grows h (Spawn a u) s a s.0.is_Known
-  event_actor h (End a) s = now_grows h (End a) s a s.0.is_Known
-  event_actor h (Open a) s = now_grows h (Open a) s a s.0.is_Known
+  event_actor h (Spawn a u) s = now_grows h (Spawn a u) s a s.0.is_known
+  event_actor h (End a) s = now_grows h (End a) s a s.0.is_known
+  event_actor h (Open a) s = now_grows h (Open a) s a s.0.is_known
   event_actor h (Close a) s = upto_refl (Close a ∷ h) (keeper h).steps (now (Close a ∷ h) a) (sym (now_close k lim h a a refl))
-  event_actor h (Read a c) s = now_grows h (Read a c) s a s.0.is_Known
-  event_actor h (Write a c) s = now_grows h (Write a c) s a s.0.is_Known
+  event_actor h (Read a c) s = now_grows h (Read a c) s a s.0.is_known
+  event_actor h (Write a c) s = now_grows h (Write a c) s a s.0.is_known
 
   event_child : (h : Past C) (e : Event C) → Sound k (e ∷ h) → (u : ℕ) → T (makes u e) → Upto (e ∷ h) (event_step h e) (now (e ∷ h) u)
   event_child h (Spawn a v) s u m =
@@ -138,7 +138,7 @@ module _ {C : Type 0} (k : CellKind C) (lim : ℕ) (laws : (limit : ℕ) (m : Or
   now_event h (End a) s = upto_refl (End a ∷ h) (now h a) (now h a) refl
   now_event h (Open a) s = upto_refl (Open a ∷ h) (now h a) (now h a) refl
   now_event h (Close a) s =
-      subst (λ x. Upto (Close a ∷ h) (now h a) x) (now_close k lim h a a refl) (now_grows h (Close a) s a s.0.is_Known)
+      subst (λ x. Upto (Close a ∷ h) (now h a) x) (now_close k lim h a a refl) (now_grows h (Close a) s a s.0.is_known)
   now_event h (Read a c) s = upto_refl h (now h a) (now h a) refl
   now_event h (Write a c) s = upto_refl h (now h a) (now h a) refl
 
@@ -166,7 +166,7 @@ module _ {C : Type 0} (k : CellKind C) (lim : ℕ) (laws : (limit : ℕ) (m : Or
       let z : T ((keeper h).last f l) =
       subst (λ x. T ((keeper h).last (finish_number h x) l)) same (last_step_by k lim h s.1 i (actor d) (q ∙ ap Some an_end)) in
       upto_before (Close a ∷ h) l (keeper h).steps
-      (same-T (sym (close_new k lim h s.1 a s.0.is_Known s.0.runs l))
+      (same-T (sym (close_new k lim h s.1 a s.0.is_known s.0.runs l))
       (or_r (is_upto k lim h l (now h a)) (waits k lim h f l)
       (any_below_in (λ x. (keeper h).last f x && is_upto k lim h l x) (keeper h).steps l (place_step_lt k lim h i (at_lt h i d q))
       (and_in ((keeper h).last f l) (is_upto k lim h l l) z (upto_refl h l l refl)))))
@@ -248,8 +248,8 @@ module _ {C : Type 0} (k : CellKind C) (lim : ℕ) (laws : (limit : ℕ) (m : Or
   -- the step that the next event is done on is before no step held so far, and neither is the event's own
   now_last : (h : Past C) (e : Event C) → Sound k (e ∷ h) → (y : ℕ) → StepBefore h (now h (actor e)) y → ⊥
   now_last h e s y b =
-      (law h s.1).current_last (number h (actor e)) y (runs_now k lim h s.1 (actor e) s.0.is_Known s.0.runs)
-      (subst (λ x. StepBefore h x y) (sym (current_is k lim h s.1 (actor e) s.0.is_Known)) b)
+      (law h s.1).current_last (number h (actor e)) y (runs_now k lim h s.1 (actor e) s.0.is_known s.0.runs)
+      (subst (λ x. StepBefore h x y) (sym (current_is k lim h s.1 (actor e) s.0.is_known)) b)
 
   event_last : (h : Past C) (e : Event C) → Sound k (e ∷ h) → (y : ℕ) → StepBefore h (event_step h e) y → ⊥
   event_last h (Spawn a u) s y b = now_last h (Spawn a u) s y b
@@ -265,11 +265,11 @@ module _ {C : Type 0} (k : CellKind C) (lim : ℕ) (laws : (limit : ℕ) (m : Or
 
   event_other : (h : Past C) (e : Event C) → Sound k (e ∷ h) → (t : ℕ) → Known k h t → (t ≡ actor e → ⊥) → event_step h e ≡ now h t → ⊥
   event_other h (Close a) s t q n p = let l = now_lt k lim h t in omega arith
-  event_other h (Spawn a u) s t q n p = n (now_apart h s.1 t a q s.0.is_Known p)
-  event_other h (End a) s t q n p = n (now_apart h s.1 t a q s.0.is_Known p)
-  event_other h (Open a) s t q n p = n (now_apart h s.1 t a q s.0.is_Known p)
-  event_other h (Read a c) s t q n p = n (now_apart h s.1 t a q s.0.is_Known p)
-  event_other h (Write a c) s t q n p = n (now_apart h s.1 t a q s.0.is_Known p)
+  event_other h (Spawn a u) s t q n p = n (now_apart h s.1 t a q s.0.is_known p)
+  event_other h (End a) s t q n p = n (now_apart h s.1 t a q s.0.is_known p)
+  event_other h (Open a) s t q n p = n (now_apart h s.1 t a q s.0.is_known p)
+  event_other h (Read a c) s t q n p = n (now_apart h s.1 t a q s.0.is_known p)
+  event_other h (Write a c) s t q n p = n (now_apart h s.1 t a q s.0.is_known p)
 
   -- what is up to the next step of the tasks that an event moves or makes is up to the event's own
   old_new : (h : Past C) (e : Event C) (x y : ℕ) → x < (keeper h).steps → (keeper h).steps ≤ y → Upto (e ∷ h) x y
@@ -280,7 +280,7 @@ module _ {C : Type 0} (k : CellKind C) (lim : ℕ) (laws : (limit : ℕ) (m : Or
       → Upto (e ∷ h) x (now (e ∷ h) t) → Upto (e ∷ h) x (event_step h e)
   touched h (Spawn a u) s t x c l q =
       upto_new h (Spawn a u) x (now h a)
-      (same-T (spawn_new k lim h s.1 a u s.0.is_Known x (now (Spawn a u ∷ h) t) new)
+      (same-T (spawn_new k lim h s.1 a u s.0.is_known x (now (Spawn a u ∷ h) t) new)
       (old_new h (Spawn a u) x (now (Spawn a u ∷ h) t) l high q))
       (now_lt k lim h a)
     where
@@ -300,7 +300,7 @@ module _ {C : Type 0} (k : CellKind C) (lim : ℕ) (laws : (limit : ℕ) (m : Or
     | inl p ↦ (
         let up = subst (λ y. Upto (Open a ∷ h) x y) (now_open k lim h a t p) q in
         upto_new h (Open a) x (now h a)
-        (same-T (open_new k lim h s.1 a s.0.is_Known x) (old_new h (Open a) x (keeper h).steps l (omega arith) up))
+        (same-T (open_new k lim h s.1 a s.0.is_known x) (old_new h (Open a) x (keeper h).steps l (omega arith) up))
         (now_lt k lim h a))
     | inr z ↦ absurd z
   ]
@@ -352,8 +352,8 @@ module _ {C : Type 0} (k : CellKind C) (lim : ℕ) (laws : (limit : ℕ) (m : Or
       let f = finish_number h (innermost h a) in
       let held = old_new h (Close a) x (keeper h).steps (place_step_lt k lim h i l) (omega arith) u in
       elim (or_of (is_upto k lim h x (now h a)) (waits k lim h f x)
-      (same-T (close_new k lim h s.1 a s.0.is_Known s.0.runs x) held)) [
-        | inl p ↦ through_lead h (Close a) i (b.through a i s.0.is_Known l p)
+      (same-T (close_new k lim h s.1 a s.0.is_known s.0.runs x) held)) [
+        | inl p ↦ through_lead h (Close a) i (b.through a i s.0.is_known l p)
         | inr p ↦ (
             let r = any_below_of (λ y. (keeper h).last f y && is_upto k lim h x y) (keeper h).steps p in
             let la = last_step_of k lim h s.1 f r.0 (and_l ((keeper h).last f r.0) (is_upto k lim h x r.0) r.2) in
@@ -370,14 +370,14 @@ module _ {C : Type 0} (k : CellKind C) (lim : ℕ) (laws : (limit : ℕ) (m : Or
             ))
       ]
   upto_lead h (Spawn a u') s b i l u =
-      through_lead h (Spawn a u') i (b.through a i s.0.is_Known l
+      through_lead h (Spawn a u') i (b.through a i s.0.is_known l
       (same-T (upto_kept k lim h (Spawn a u') (place_step h i) (now h a) (now_lt k lim h a)) u))
-  upto_lead h (End a) s b i l u = through_lead h (End a) i (b.through a i s.0.is_Known l u)
+  upto_lead h (End a) s b i l u = through_lead h (End a) i (b.through a i s.0.is_known l u)
   upto_lead h (Open a) s b i l u =
-      through_lead h (Open a) i (b.through a i s.0.is_Known l
+      through_lead h (Open a) i (b.through a i s.0.is_known l
       (same-T (upto_kept k lim h (Open a) (place_step h i) (now h a) (now_lt k lim h a)) u))
-  upto_lead h (Read a c) s b i l u = through_lead h (Read a c) i (b.through a i s.0.is_Known l u)
-  upto_lead h (Write a c) s b i l u = through_lead h (Write a c) i (b.through a i s.0.is_Known l u)
+  upto_lead h (Read a c) s b i l u = through_lead h (Read a c) i (b.through a i s.0.is_known l u)
+  upto_lead h (Write a c) s b i l u = through_lead h (Write a c) i (b.through a i s.0.is_known l u)
 
   through_next : (h : Past C) (e : Event C) → Sound k (e ∷ h) → Tells h
       → (t i : ℕ) → Known k (e ∷ h) t → i < suc (length h) → Upto (e ∷ h) (place_step (e ∷ h) i) (now (e ∷ h) t) → ThroughTask (e ∷ h) i t

@@ -153,7 +153,7 @@ module _ {C : Type 0} (k : CellKind C) where
   home_behind (e ∷ h) s x d a = elim (at_case h e x d a) [
     | inl w ↦
         ap (λ g. home g (actor d)) (behind_new h e x w.0)
-        ∙ sym (home_old h e (actor d) (stale k h e s.0 (actor d) (subst (λ c. Known k h (actor c)) w.1 s.0.is_Known)))
+        ∙ sym (home_old h e (actor d) (stale k h e s.0 (actor d) (subst (λ c. Known k h (actor c)) w.1 s.0.is_known)))
     | inr w ↦
         ap (λ g. home g (actor d)) (behind_old h e x w.0)
         ∙ home_behind h s.1 x d w.1
