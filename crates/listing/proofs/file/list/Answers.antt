@@ -17,10 +17,10 @@ law Q from bs l h = from bs (job_of l) (events_of l) (fault_of l) h
 pub returns : goal.returns
 returns c =
     let bs = c.args.bytes.now in
-    let listed = c.read-file.ensures in
+    let listed = c.read_file.ensures in
     record {
       listed = listed;
-      only = IfOk-weaker c.read-file.result _ _ (law OnlyListing only_listing bs) listed;
-      read_back = IfOk-weaker c.read-file.result _ _ (law ReadsBack reads_back bs) listed;
-      written_back = IfOk-weaker c.read-file.result _ _ (law WritesBack writes_back bs) listed;
+      only = IfOk-weaker c.read_file.result _ _ (law OnlyListing only_listing bs) listed;
+      read_back = IfOk-weaker c.read_file.result _ _ (law ReadsBack reads_back bs) listed;
+      written_back = IfOk-weaker c.read_file.result _ _ (law WritesBack writes_back bs) listed;
     }

@@ -12,9 +12,9 @@ pub returns-then-end-bytes : goal.returns-then-end-bytes
 returns-then-end-bytes c =
     let w = c.in-Ok.ensures.written in
     let form = file_form c.args.job c.args.events.now in
-    let same = slice_eq-Decides Decides-eqb c.write-file.new.buf c.args.bytes.now c.eq.result c.eq.ensures in
+    let same = slice_eq-Decides Decides-eqb c.write_file.new.buf c.args.bytes.now c.eq.result c.eq.ensures in
     let whole : laid c.args.buf.now 0 form ≡ form = laid_whole c.args.buf.now form (omega (arith, w.2, c.if-end-bytes.true, c.requires)) in
-    let over : c.write-file.new.buf ≡ form = cc (w.3, whole) in
+    let over : c.write_file.new.buf ≡ form = cc (w.3, whole) in
     (λ e. (w.0, cc (same.0 e, over)), λ h. same.1 (cc (over, h.1)))
 
 pub returns-else-end-bytes : goal.returns-else-end-bytes

@@ -2,14 +2,14 @@ use Rattle.std.proofs.Common.{rules}
 use Rattle.record.proofs.Reading.{numbers_more, numbers_later}
 use Rattle.record.proofs.event.read_access.Goals as goal
 
-pub returns-in-err-mailbox : goal.returns-in-err-mailbox
-returns-in-err-mailbox c =
-    let first = c.in-ok-task.ensures in
-    let why = c.in-err-mailbox.ensures in
+pub returns-in_err-mailbox : goal.returns-in_err-mailbox
+returns-in_err-mailbox c =
+    let first = c.in_ok-task.ensures in
+    let why = c.in_err-mailbox.ensures in
     search (rules, numbers_later)
 
 pub returns : goal.returns
 returns c =
-    let task = c.in-ok-task.ensures in
-    let cell = c.in-ok-mailbox.ensures in
+    let task = c.in_ok-task.ensures in
+    let cell = c.in_ok-mailbox.ensures in
     search (rules, numbers_more)

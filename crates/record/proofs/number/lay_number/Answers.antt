@@ -6,7 +6,7 @@ use Rattle.record.proofs.number.lay_number.Goals as goal
 
 pub loop-rest-init : goal.loop-rest-init
 loop-rest-init c =
-    let a = left_all c.args.number c.requires.in-range in
+    let a = left_all c.args.number c.requires.in_range in
     (a.0, omega (arith, ap length a.1), ap (laid c.args.out.now c.args.at) (sym a.1))
 
 pub bounds-out-next : goal.bounds-out-next

@@ -6,8 +6,8 @@ use Rattle.record.proofs.number.number_width.Goals as goal
 pub loop-rest-init : goal.loop-rest-init
 loop-rest-init c = let a = left_all c.args.number c.requires in (a.0, omega (arith, ap length a.1))
 
-pub overflow-add-width : goal.overflow-add-width
-overflow-add-width c = omega (arith, c.loop-rest.invariant.1, form_length c.args.number)
+pub overflow_add-width : goal.overflow_add-width
+overflow_add-width c = omega (arith, c.loop-rest.invariant.1, form_length c.args.number)
 
 pub loop-rest-preserved : goal.loop-rest-preserved
 loop-rest-preserved c =

@@ -4,4 +4,4 @@ use Rattle.record.proofs.ByExample.{number_examples}
 use Rattle.record.proofs.number.read_number.Goals as goal
 
 pub returns : goal.returns
-returns c = record { answered = c.number-at.ensures; only = number_only _ _ c.number-at.ensures; apart = numbers_apart; examples = number_examples }
+returns c = record { answered = c.number_at.ensures; only = number_only _ _ c.number_at.ensures; apart = numbers_apart; examples = number_examples }

@@ -5,11 +5,11 @@ use Rattle.record.specs.Writes.{laid}
 use Rattle.record.proofs.Laying.{forms_more, forms_length, forms_all, laid_none, laid_append}
 use Rattle.record.proofs.writer.lay_numbers.Goals as goal
 
-pub lay-number-next-requires : goal.lay-number-next-requires
-lay-number-next-requires c =
+pub lay_number-next-requires : goal.lay_number-next-requires
+lay_number-next-requires c =
     let l = forms_length c.args.numbers.now c.loop-number.number-index c.loop-number-test.true in
     record {
-      in-range = All-get_or (λ n. n < 2 ^ 63) c.args.numbers.now c.loop-number.number-index 0 c.loop-number-test.true c.requires.in-range;
+      in_range = All-get_or (λ n. n < 2 ^ 63) c.args.numbers.now c.loop-number.number-index 0 c.loop-number-test.true c.requires.in_range;
       room = omega (arith, c.loop-number.invariant.0);
     }
 
@@ -21,9 +21,9 @@ loop-number-preserved c =
     let more = numbers_form (drop (i + 1) ns) in
     let l = forms_length ns i c.loop-number-test.true in
     let room : c.loop-number.next + length one ≤ length c.loop-number.out = omega (arith, c.loop-number.invariant.0) in
-    let moved : laid c.lay-number-next.new.out c.lay-number-next.result more ≡ laid (laid c.loop-number.out c.loop-number.next one) (c.loop-number.next + length one) more = (λ j. laid (c.lay-number-next.ensures.after j) (c.lay-number-next.ensures.end j) more) in
+    let moved : laid c.lay_number-next.new.out c.lay_number-next.result more ≡ laid (laid c.loop-number.out c.loop-number.next one) (c.loop-number.next + length one) more = (λ j. laid (c.lay_number-next.ensures.after j) (c.lay_number-next.ensures.end j) more) in
     let joined : laid (laid c.loop-number.out c.loop-number.next one) (c.loop-number.next + length one) more ≡ laid c.loop-number.out c.loop-number.next (numbers_form (drop i ns)) = laid_append c.loop-number.out c.loop-number.next one more room ∙ ap (laid c.loop-number.out c.loop-number.next) (sym (forms_more ns i c.loop-number-test.true)) in
-    (omega (arith, c.loop-number.invariant.0, c.lay-number-next.ensures.end), moved ∙ (joined ∙ c.loop-number.invariant.1))
+    (omega (arith, c.loop-number.invariant.0, c.lay_number-next.ensures.end), moved ∙ (joined ∙ c.loop-number.invariant.1))
 
 pub returns : goal.returns
 returns c =

@@ -4,9 +4,9 @@ use Rattle.record.specs.Events.{event_form}
 use Rattle.record.proofs.Passing.{rest_within, passed}
 use Rattle.record.proofs.reader.Reader.next_event.Goals as goal
 
-pub returns-then-is-empty : goal.returns-then-is-empty
-returns-then-is-empty c =
-    let none = eqb-true _ 0 (sym c.if-is-empty.ensures) in
+pub returns-then-is_empty : goal.returns-then-is_empty
+returns-then-is_empty c =
+    let none = eqb-true _ 0 (sym c.if-is_empty.ensures) in
     search (rules, nil_from_length)
 
 pub pass-requires : goal.pass-requires
