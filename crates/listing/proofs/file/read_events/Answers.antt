@@ -9,4 +9,4 @@ loop-next-smaller c =
 pub loop-next-preserved : goal.loop-next-preserved
 loop-next-preserved c =
     let read = next_event c.loop-next.reader c.next_event.new.self c.in-Ok.next c.in-Some.event c.in-Some.is c.in-Ok.ensures.answered in
-    rw c.in_ok-push.ensures.items (walked_more _ _ _ _ _ c.loop-next.invariant read.0 read.1)
+    rw c.in_ok-push-in-Some.ensures.items (walked_more _ _ _ _ _ c.loop-next.invariant read.0 read.1)
