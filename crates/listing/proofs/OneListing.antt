@@ -1,6 +1,6 @@
 -- A file is listed in one way: each of its parts is, and no event begins where its events stop.
 use Rattle.std.proofs.Common.{◌≡◌, ℕ, ◌+◌, ◌^◌, ◌<◌, List, [], ◌∷◌, ◌++◌, length, Some, None, Option, sym, refl, ap, ◌∙◌, subst, inl, inr, arith}
-use Rattle.std.specs.List.{AllByRecursion as All}
+use Rattle.std.specs.List.{AllByRecursion}
 use Rattle.std.proofs.lemmas.List.{append_assoc, append-nil}
 use Rattle.model.specs.declared.Cell.{Cell}
 use Rattle.model.specs.declared.Event.{Event}
@@ -21,7 +21,7 @@ Ends at rest (Some f) = (0 < length rest) × (f.place ≡ at) × EventRefused re
 -- the events and what follows them, whether or not a fault stopped them
 record Parted (from : ℕ) (bs : List ℕ) (es : List (Event Cell)) (f : Option ByteRefusal) : Type 0 where
   rest : List ℕ
-  all : All Writable es
+  all : AllByRecursion Writable es
   cut : bs ≡ events_form es ++ rest
   ends : Ends (from + length (events_form es)) rest f
 
@@ -48,11 +48,11 @@ one_end at rest (Some f) None h k = let z : ⊥ = omega (arith, ap length k) in 
 one_end at rest (Some f) (Some g) h k = ap Some (same_refusal f g (event_one_fault rest f.fault g.fault h.2 k.2) (h.1 ∙ sym k.1))
 
 -- no events stand where none begins
-no_first : (d : Event Cell) (ds : List (Event Cell)) (r s : List ℕ) → All Writable (d ∷ ds) → NoEvent r → r ≡ events_form (d ∷ ds) ++ s → ⊥
+no_first : (d : Event Cell) (ds : List (Event Cell)) (r s : List ℕ) → AllByRecursion Writable (d ∷ ds) → NoEvent r → r ≡ events_form (d ∷ ds) ++ s → ⊥
 no_first d ds r s h n e = n d (events_form ds ++ s) (h.0, e ∙ append_assoc (event_form d) (events_form ds) s)
 
 -- the same bytes hold the same events, if no further event follows either
-events_once : (es ds : List (Event Cell)) (r s : List ℕ) → All Writable es → All Writable ds → NoEvent r → NoEvent s → events_form es ++ r ≡ events_form ds ++ s → (es ≡ ds) × (r ≡ s)
+events_once : (es ds : List (Event Cell)) (r s : List ℕ) → AllByRecursion Writable es → AllByRecursion Writable ds → NoEvent r → NoEvent s → events_form es ++ r ≡ events_form ds ++ s → (es ≡ ds) × (r ≡ s)
 events_once [] [] r s h k m n q = (refl, q)
 events_once [] (d ∷ ds) r s h k m n q = absurd (no_first d ds r s k m q)
 events_once (e ∷ es) [] r s h k m n q = absurd (no_first e es s r h n (sym q))

@@ -1,6 +1,6 @@
 -- Parts written one after another.
 use Rattle.std.proofs.Common.{◌≡◌, ℕ, ◌+◌, ◌<◌, ◌≤◌, List, [], ◌∷◌, ◌++◌, length, get_or, take, drop, Ok, Err, Result, sym, refl, ap, ◌∙◌, subst, append_assoc, append-nil, arith, length-append}
-use Rattle.std.specs.List.{AllByRecursion as All}
+use Rattle.std.specs.List.{AllByRecursion}
 use Rattle.std.proofs.lemmas.List.{map_more, map-append, drop_more, drop_all, take-append-drop, take_all}
 use Rattle.std.proofs.ByRecursion.{All-append, All-map}
 use Rattle.model.specs.declared.Cell.{Cell}
@@ -118,17 +118,17 @@ file_parts_form job es = ap (λ (x : List ℕ). heading ++ (number_form job ++ x
     go [] = refl
     go (d ∷ ds) = ap (λ (x : List ℕ). event_form d ++ x) (go ds)
 
-file_parts_fit : (job : ℕ) (es : List (Event Cell)) → All (λ (p : Part). InRange p.0) (file_parts job es) → Fits job es
+file_parts_fit : (job : ℕ) (es : List (Event Cell)) → AllByRecursion (λ (p : Part). InRange p.0) (file_parts job es) → Fits job es
 file_parts_fit job es (h, ((j, u), more)) = (j, go es more)
   where
-    go : (ds : List (Event Cell)) → All (λ (p : Part). InRange p.0) (event_parts ds) → All Writable ds
+    go : (ds : List (Event Cell)) → AllByRecursion (λ (p : Part). InRange p.0) (event_parts ds) → AllByRecursion Writable ds
     go [] k = tt
     go (d ∷ ds) (k, ks) = (k, go ds ks)
 
-parts_fit_file : (job : ℕ) (es : List (Event Cell)) → Fits job es → All (λ (p : Part). InRange p.0) (file_parts job es)
+parts_fit_file : (job : ℕ) (es : List (Event Cell)) → Fits job es → AllByRecursion (λ (p : Part). InRange p.0) (file_parts job es)
 parts_fit_file job es (j, fit) = (tt, ((j, tt), All-map (λ (p : Part). InRange p.0) event_part es fit))
 
-part_fits : (ps : List Part) (p : Part) (qs : List Part) → All (λ (q : Part). InRange q.0) (ps ++ (p ∷ qs)) → InRange p.0
+part_fits : (ps : List Part) (p : Part) (qs : List Part) → AllByRecursion (λ (q : Part). InRange q.0) (ps ++ (p ∷ qs)) → InRange p.0
 part_fits [] p qs h = h.0
 part_fits (q ∷ ps) p qs h = part_fits ps p qs h.1
 
@@ -145,7 +145,7 @@ file_stopped : (job : ℕ) (es : List (Event Cell)) (buf : List ℕ) (r : ByteRe
 file_stopped job es buf r after w fit =
     let whole : parts_form (file_parts job es) ≡ parts_form w.done ++ (w.part.1 ++ parts_form w.more) = ap parts_form w.split ∙ parts_append w.done (w.part ∷ w.more) in
     let long = ap length whole ∙ (length-append (parts_form w.done) (w.part.1 ++ parts_form w.more) ∙ ap (λ (n : ℕ). length (parts_form w.done) + n) (length-append w.part.1 (parts_form w.more))) in
-    let fits : InRange w.part.0 = part_fits w.done w.part w.more (subst (All (λ (p : Part). InRange p.0)) w.split (parts_fit_file job es fit)) in
+    let fits : InRange w.part.0 = part_fits w.done w.part w.more (subst (AllByRecursion (λ (p : Part). InRange p.0)) w.split (parts_fit_file job es fit)) in
     let short : length buf < r.place + length w.part.1 = no_room w.part.0 w.part.1 buf r.place r.fault fits w.why in
     omega (arith, w.place, ap length (file_parts_form job es))
 

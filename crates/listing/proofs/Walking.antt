@@ -1,6 +1,6 @@
 -- Events read one after another: what stands between the start and the reader is the form of those read.
 use Rattle.std.proofs.Common.{◌≡◌, ℕ, ◌+◌, ◌<◌, List, [], ◌∷◌, ◌++◌, length, Some, Ok, Option, sym, ap, ◌∙◌, subst, append_assoc, arith, length-append}
-use Rattle.std.specs.List.{AllByRecursion as All}
+use Rattle.std.specs.List.{AllByRecursion}
 use Rattle.std.proofs.lemmas.List.{flat_map_more}
 use Rattle.std.proofs.ByRecursion.{All-push}
 use Rattle.model.specs.declared.Cell.{Cell}
@@ -12,7 +12,7 @@ use Rattle.listing.specs.Files.{events_form}
 
 -- a reader that went from r over the events es
 pub record Walked (r : Reader) (es : List (Event Cell)) (s : Reader) : Type 0 where
-  pub fit : All Writable es
+  pub fit : AllByRecursion Writable es
   pub cut : left_of r ≡ events_form es ++ left_of s
   pub place : s.place ≡ r.place + length (events_form es)
 

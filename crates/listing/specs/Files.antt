@@ -1,6 +1,6 @@
 -- What a whole record file tells: its job number and its events, up to its end or its first fault.
 use Rattle.std.specs.Prelude.{◌≡◌, ℕ, ◌+◌, ◌^◌, ◌<◌, ◌≤◌, ◌⊎◌, List, [], ◌∷◌, ◌++◌, map, length, Some, None, Ok, Err, Option, Result}
-use Rattle.std.specs.List.{flat_map, AllByRecursion as All}
+use Rattle.std.specs.List.{flat_map, AllByRecursion}
 use Rattle.model.specs.declared.Cell.{Cell}
 use Rattle.model.specs.declared.Event.{Event}
 use Rattle.record.specs.declared.fault.ByteRefusal.{ByteRefusal}
@@ -15,7 +15,7 @@ events_form es = flat_map event_form es
 
 -- each number in the file is at most 2^63 - 1
 abbrev pub Fits : ℕ → List (Event Cell) → Type 0
-Fits job es = (job < 2 ^ 63) × All Writable es
+Fits job es = (job < 2 ^ 63) × AllByRecursion Writable es
 
 -- bs, which begins at place `from`, holds the events es and then bytes that f refuses
 pub record Stopped (from : ℕ) (bs : List ℕ) (es : List (Event Cell)) (f : ByteRefusal) : Type 0 where
@@ -27,8 +27,8 @@ pub record Stopped (from : ℕ) (bs : List ℕ) (es : List (Event Cell)) (f : By
 
 -- bs, which begins at place `from`, holds the events es to its end, or up to what f refuses
 abbrev pub EventsRead : ℕ → List ℕ → List (Event Cell) → Option ByteRefusal → Type 0
-EventsRead from bs es None = All Writable es × (bs ≡ events_form es)
-EventsRead from bs es (Some f) = All Writable es × Stopped from bs es f
+EventsRead from bs es None = AllByRecursion Writable es × (bs ≡ events_form es)
+EventsRead from bs es (Some f) = AllByRecursion Writable es × Stopped from bs es f
 
 -- no job number is read: the heading is refused at place 0, or the number at place 4
 abbrev pub NoJob : List ℕ → ByteRefusal → Type 0
@@ -85,7 +85,7 @@ pub record WriteStopped (parts : List Part) (buf : List ℕ) (from : ℕ) (r : B
   pub part : Part
   pub more : List Part
   pub split : parts ≡ done ++ (part ∷ more)
-  pub fit : All (λ p. InRange p.0) done
+  pub fit : AllByRecursion (λ p. InRange p.0) done
   pub place : r.place ≡ from + length (parts_form done)
   pub room : from + length (parts_form done) ≤ length buf
   pub over : after ≡ laid buf from (parts_form done)
@@ -93,7 +93,7 @@ pub record WriteStopped (parts : List Part) (buf : List ℕ) (from : ℕ) (r : B
 
 -- parts written one after another: all of them, every other byte as before; or those before the first that is refused
 abbrev pub PartsWritten : List Part → List ℕ → ℕ → Result ℕ ByteRefusal → List ℕ → Type 0
-PartsWritten ps buf from (Ok end) after = All (λ p. InRange p.0) ps × (from + length (parts_form ps) ≤ length buf) × (end ≡ from + length (parts_form ps)) × (after ≡ laid buf from (parts_form ps))
+PartsWritten ps buf from (Ok end) after = AllByRecursion (λ p. InRange p.0) ps × (from + length (parts_form ps) ≤ length buf) × (end ≡ from + length (parts_form ps)) × (after ≡ laid buf from (parts_form ps))
 PartsWritten ps buf from (Err r) after = WriteStopped ps buf from r after
 
 -- a file written from the start of a buffer: all of it, every other byte as before; or a number has no form, or there is

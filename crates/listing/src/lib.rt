@@ -1,4 +1,6 @@
 // A whole record file: listed line by line, and written again.
+#![tactic(auto)]
+
 mod file;
 mod line;
 mod text;

@@ -1,5 +1,7 @@
 // What a record says: events, cells, races; what is kept of a cell and of a run; the layers that refuse. `specs/` has the
 // rules of a run, and `laws` has the laws that are proved of them.
+#![tactic(auto)]
+
 pub mod laws;
 mod numbers;
 mod shown;

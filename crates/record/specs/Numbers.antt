@@ -1,6 +1,6 @@
 -- The form of a number, and which bytes begin with numbers.
 use Rattle.std.specs.Prelude.{◌≡◌, ℕ, zero, suc, ◌+◌, ◌/◌, ◌%◌, ◌^◌, ◌<◌, ◌≤◌, cond, ◌⊎◌, List, [], ◌∷◌, ◌++◌, length, nat_lt}
-use Rattle.std.specs.List.{flat_map, AllByRecursion as All}
+use Rattle.std.specs.List.{flat_map, AllByRecursion}
 use Rattle.record.specs.declared.fault.ByteFault.{ByteFault}
 use Rattle.record.specs.declared.fault.ByteFault.TheVariants.{WrongHeading, Short, BadNumber, UnknownKind, NoRoom, TooLarge}
 
@@ -19,7 +19,7 @@ numbers_form ns = flat_map number_form ns
 
 -- each is at most 2^63 - 1
 abbrev pub InRange : List ℕ → Type 0
-InRange ns = All (λ n. n < 2 ^ 63) ns
+InRange ns = AllByRecursion (λ n. n < 2 ^ 63) ns
 
 -- bs begins with the form of n, and rest follows it
 abbrev pub NumberRead : List ℕ → ℕ → List ℕ → Type 0
@@ -27,7 +27,7 @@ NumberRead bs n rest = (n < 2 ^ 63) × (bs ≡ number_form n ++ rest)
 
 -- each byte has its high bit set, so that the number goes on after it
 abbrev pub GoesOn : List ℕ → Type 0
-GoesOn bs = All (λ b. 128 ≤ b) bs
+GoesOn bs = AllByRecursion (λ b. 128 ≤ b) bs
 
 -- a ninth byte goes on, or a last byte after the first is 0
 pub record Misformed (bs : List ℕ) : Type 0 where

@@ -1,4 +1,6 @@
 // Record bytes and events: reading one from the other and writing it back.
+#![tactic(auto)]
+
 mod event;
 mod fault;
 mod heading;

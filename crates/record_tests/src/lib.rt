@@ -1,4 +1,5 @@
 // Tests of the record bytes by example: numbers and their forms, whole files and their listings, and refused writes.
+#![tactic(auto)]
 
 #[cfg(test)]
 mod files;

@@ -1,4 +1,6 @@
 // Lists a record from standard input: its job, its events, and whether it is written again as it was.
+#![tactic(auto)]
+
 use listing::{LIMIT, lines};
 use std::io;
 use std::io::Read;
