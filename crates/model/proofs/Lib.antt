@@ -8,4 +8,3 @@ pub mod Parting
 pub mod TwoReaders
 pub mod Telling
 pub mod Whole
-pub mod Computed

@@ -1,12 +1,12 @@
 -- Every read is before, or is, one that is before no other; `between` then carries what holds of the leftmost and the rightmost to it.
-use Rattle.std.proofs.Common.{◌≡◌, ℕ, ◌<◌, Bool, cond, ◌||◌, T, eqb, ◌⊎◌, List, [], ◌∷◌, sym, refl, ◌∙◌, subst, inl, inr, eqb→eq}
+use Rattle.std.proofs.lemmas.Bool.Decides.{nat_tests}
+use Rattle.std.proofs.Common.{◌≡◌, ℕ, ◌<◌, Bool, cond, ◌||◌, T, ◌⊎◌, List, [], ◌∷◌, sym, refl, subst, inl, inr, arith}
 use Rattle.model.specs.Lists.{mem}
 use Rattle.model.specs.Orders.{Order, at_or_before}
 use Rattle.model.specs.Reached.{OrderLaws}
 use Rattle.model.specs.Readers.{Latest, Leftmost, Rightmost, Held, TwoSuffice, left_with, right_with, TwoKept}
-use Rattle.std.proofs.lemmas.Bool.{cases_eq}
-use Rattle.model.proofs.Shelf.Tests.{cond_no, cond_yes, eqb_in, or_l, or_of, or_r, tried}
-use Rattle.model.proofs.Shelf.Lists.{mem_head, mem_of, mem_tail}
+use Rattle.model.proofs.Shelf.Tests.{cond_no, cond_yes, tried}
+use Rattle.model.proofs.Shelf.Lists.{mem_head, mem_of}
 
 -- a step that x is or is before, and that is before none of rs
 abbrev Peak : Order → List ℕ → ℕ → Type 0
@@ -22,79 +22,38 @@ Foremost m ahead rs e = Latest m rs e × ((x : ℕ) → Latest m rs x → (x ≡
 
 module _ (m : Order) where
   at_case : (s a : ℕ) → T (at_or_before m s a) → (a ≡ s) ⊎ T (m.before a s)
-  at_case s a h = elim (or_of (eqb a s) (m.before a s) h) [ inl e ↦ inl (eqb→eq a s e) | inr b ↦ inr b ]
+  at_case s a h = grind arith
 
   at_same : (s a : ℕ) → a ≡ s → T (at_or_before m s a)
-  at_same s a e = or_l (eqb a s) (m.before a s) (eqb_in a s e)
+  at_same s a e = grind arith
 
   at_before : (s a : ℕ) → T (m.before a s) → T (at_or_before m s a)
-  at_before s a b = or_r (eqb a s) (m.before a s) b
+  at_before s a b = grind arith
 
   -- one more read, on the step s
   latest_new : (rs : List ℕ) (s : ℕ) → BeforeNone m s → Latest m (s ∷ rs) s
-  latest_new rs s tip = (mem_head s rs, λ y i b. tip y b)
-
-  latest_old : (rs : List ℕ) (s x : ℕ) → Latest m rs x → (T (m.before x s) → ⊥) → Latest m (s ∷ rs) x
-  latest_old rs s x (i, n) nb = (mem_tail x s rs i, none)
-    where
-      none : (y : ℕ) → T (mem y (s ∷ rs)) → T (m.before x y) → ⊥
-      none y j b = elim (mem_of y s rs j) [ inl e ↦ nb (subst (λ w. T (m.before x w)) e b) | inr k ↦ n y k b ]
+  latest_new rs s tip = grind arith
 
   latest_case : (rs : List ℕ) (s x : ℕ) → Latest m (s ∷ rs) x → (x ≡ s) ⊎ (Latest m rs x × (T (m.before x s) → ⊥))
-  latest_case rs s x (i, n) = elim (mem_of x s rs i) [
-    | inl e ↦ inl e
-    | inr k ↦ inr ((k, λ y j b. n y (mem_tail y s rs j) b), n s (mem_head s rs))
-  ]
+  latest_case rs s x (i, n) = grind arith
 
 module _ (m : Order) (laws : OrderLaws m) where
   before_irrefl : (a : ℕ) → T (m.before a a) → ⊥
   before_irrefl a b = laws.earlier_irrefl a (laws.before_earlier a a b)
 
-  at_then : (x y z : ℕ) → T (at_or_before m y x) → T (m.before y z) → T (m.before x z)
-  at_then x y z h b = elim (at_case m y x h) [
-    | inl e ↦ subst (λ w. T (m.before w z)) (sym e) b
-    | inr a ↦ laws.before_trans x y z a b
-  ]
-
   at_trans : (x y z : ℕ) → T (at_or_before m y x) → T (at_or_before m z y) → T (at_or_before m z x)
-  at_trans x y z h k = elim (at_case m z y k) [
-    | inl e ↦ subst (λ w. T (at_or_before m w x)) e h
-    | inr b ↦ at_before m z x (at_then x y z h b)
-  ]
+  at_trans x y z h k = grind arith
 
   earlier_at : (x r s : ℕ) → T (m.earlier x r) → T (at_or_before m s r) → T (m.earlier x s)
-  earlier_at x r s h k = elim (at_case m s r k) [
-    | inl e ↦ subst (λ w. T (m.earlier x w)) e h
-    | inr b ↦ laws.earlier_trans x r s h (laws.before_earlier r s b)
-  ]
+  earlier_at x r s h k = grind arith
 
   -- x is before z: the peak over z is one over x
   peak_step : (x z : ℕ) (rs : List ℕ) → T (m.before x z) → Peak m rs z → Peak m (z ∷ rs) x
-  peak_step x z rs b (y, i, h, n) = (y, mem_tail y x (z ∷ rs) i, at_before m y x (up (at_case m y z h)), none)
-    where
-      up : (z ≡ y) ⊎ T (m.before z y) → T (m.before x y)
-      up (inl e) = subst (λ w. T (m.before x w)) e b
-      up (inr c) = laws.before_trans x z y b c
-
-      none : (w : ℕ) → T (mem w (z ∷ rs)) → T (m.before y w) → ⊥
-      none w j c = elim (mem_of w z rs j) [
-        | inl e ↦ before_irrefl z (at_then z y z h (subst (λ v. T (m.before y v)) e c))
-        | inr k ↦ n w k c
-      ]
+  peak_step x z rs b (y, i, h, n) = grind (arith, nat_tests, at_case m)
 
   -- x is not before z: the peak stays
   peak_stay : (x z : ℕ) (rs : List ℕ) → (T (m.before x z) → ⊥) → Peak m rs x → Peak m (z ∷ rs) x
-  peak_stay x z rs nb (y, i, h, n) = (y, wider (mem_of y x rs i), h, none)
-    where
-      wider : (y ≡ x) ⊎ T (mem y rs) → T (mem y (x ∷ (z ∷ rs)))
-      wider (inl e) = or_l (eqb y x) (mem y (z ∷ rs)) (eqb_in y x e)
-      wider (inr k) = mem_tail y x (z ∷ rs) (mem_tail y z rs k)
-
-      none : (w : ℕ) → T (mem w (z ∷ rs)) → T (m.before y w) → ⊥
-      none w j c = elim (mem_of w z rs j) [
-        | inl e ↦ nb (at_then x y z h (subst (λ v. T (m.before y v)) e c))
-        | inr k ↦ n w k c
-      ]
+  peak_stay x z rs nb (y, i, h, n) = grind arith
 
   peak_of : (rs : List ℕ) (x : ℕ) → Peak m rs x
   peak_of [] x = (x, mem_head x [], at_same m x x refl, λ z i b. absurd i)
@@ -118,15 +77,13 @@ module _ (m : Order) (laws : OrderLaws m) where
       go : (y ≡ l) ⊎ T (m.earlier l y) → (y ≡ r) ⊎ T (m.earlier y r) → (l ≡ s) ⊎ T (m.before l s) → T (at_or_before m s y)
       go (inl e) _ _ = subst (λ w. T (at_or_before m s w)) (sym e) hl
       go (inr a) (inl e) _ = subst (λ w. T (at_or_before m s w)) (sym e) hr
-      go (inr a) (inr b) (inl e) =
-          let round : T (m.earlier s s) = laws.earlier_trans s y s (subst (λ w. T (m.earlier w y)) e a) (earlier_at y r s b hr) in
-          absurd (laws.earlier_irrefl s round)
+      go (inr a) (inr b) (inl e) = grind arith
       go (inr a) (inr b) (inr c) = at_before m s y (laws.between l y s a (earlier_at y r s b hr) (left.0.1 y top.0) c)
 
   pub two_suffice : TwoSuffice m
   two_suffice rs l r s left right hl hr x i =
       let p = latest_above rs x i in
-      at_trans x p.0 s p.2 (latest_after rs l r s left right hl hr p.0 p.1)
+      grind (arith, nat_tests, at_trans, latest_after)
 
   -- one more read, on the step s: who is foremost then, by serial order or by its converse
   module _ (ahead : ℕ → ℕ → Bool) (ahead_trans : (a b c : ℕ) → T (ahead a b) → T (ahead b c) → T (ahead a c))
@@ -136,39 +93,17 @@ module _ (m : Order) (laws : OrderLaws m) where
     moves : BeforeNone m s
         → ((x : ℕ) → Latest m rs x → (T (m.before x s) → ⊥) → T (ahead e x) → T (m.before e s) → (x ≡ s) ⊎ T (ahead s x))
         → T (at_or_before m s e || ahead s e) → Foremost m ahead (s ∷ rs) s
-    moves tip passed h = (latest_new m rs s tip, λ x top. old x (latest_case m rs s x top))
-      where
-        from_at : (x : ℕ) → Latest m rs x → (T (m.before x s) → ⊥) → (x ≡ e) ⊎ T (ahead e x) → (e ≡ s) ⊎ T (m.before e s)
-            → (x ≡ s) ⊎ T (ahead s x)
-        from_at x top nb (inl i) (inl j) = inl (i ∙ j)
-        from_at x top nb (inl i) (inr b) = absurd (nb (subst (λ w. T (m.before w s)) (sym i) b))
-        from_at x top nb (inr a) (inl j) = inr (subst (λ w. T (ahead w x)) j a)
-        from_at x top nb (inr a) (inr b) = passed x top nb a b
-
-        from_ahead : (x : ℕ) → (x ≡ e) ⊎ T (ahead e x) → T (ahead s e) → T (ahead s x)
-        from_ahead x (inl i) c = subst (λ w. T (ahead s w)) (sym i) c
-        from_ahead x (inr a) c = ahead_trans s e x c a
-
-        old : (x : ℕ) → (x ≡ s) ⊎ (Latest m rs x × (T (m.before x s) → ⊥)) → (x ≡ s) ⊎ T (ahead s x)
-        old x (inl i) = inl i
-        old x (inr (top, nb)) = elim (or_of (at_or_before m s e) (ahead s e) h) [
-          | inl k ↦ from_at x top nb (foremost.1 x top) (at_case m s e k)
-          | inr c ↦ inr (from_ahead x (foremost.1 x top) c)
-        ]
+    moves tip passed h = grind (arith, nat_tests, latest_new m rs s, latest_case m rs s, ahead_trans s e)
 
     -- e stays
     stays : Held m rs → s < m.steps → (T (at_or_before m s e || ahead s e) → ⊥) → Foremost m ahead (s ∷ rs) e
-    stays held s_held n =
-        (latest_old m rs s e foremost.0 (λ b. not_at (at_before m s e b)), λ x top. old x (latest_case m rs s x top))
+    stays held s_held n = grind (arith, nat_tests)
       where
         not_at : T (at_or_before m s e) → ⊥
-        not_at k = n (or_l (at_or_before m s e) (ahead s e) k)
+        not_at k = grind arith
 
         still_ahead : T (ahead e s)
-        still_ahead = elim (ahead_total e s (held e foremost.0.0) s_held (λ i. not_at (at_same m s e i))) [
-          | inl c ↦ c
-          | inr c ↦ absurd (n (or_r (at_or_before m s e) (ahead s e) c))
-        ]
+        still_ahead = grind arith
 
         old : (x : ℕ) → (x ≡ s) ⊎ (Latest m rs x × (T (m.before x s) → ⊥)) → (x ≡ e) ⊎ T (ahead e x)
         old x (inl i) = inr (subst (λ w. T (ahead e w)) (sym i) still_ahead)
@@ -189,13 +124,7 @@ module _ (m : Order) (laws : OrderLaws m) where
     where
       -- x, later than l and no later than s, would be before s as l is
       passed : (x : ℕ) → Latest m rs x → (T (m.before x s) → ⊥) → T (m.earlier l x) → T (m.before l s) → (x ≡ s) ⊎ T (m.earlier s x)
-      passed x top nb a b = elim (cases_eq x s) [
-        | inl e ↦ inl e
-        | inr ne ↦ elim (laws.earlier_total x s (held x top.0) s_held ne) [
-          | inl c ↦ absurd (nb (laws.between l x s a c (left.0.1 x top.0) b))
-          | inr c ↦ inr c
-        ]
-      ]
+      passed x top nb a b = grind arith
 
   right_kept : (rs : List ℕ) (r s : ℕ) → Rightmost m rs r → Held m rs → BeforeNone m s → s < m.steps
       → Rightmost m (s ∷ rs) (right_with m s r)

@@ -19,7 +19,6 @@ use Rattle.model.proofs.Orderings.Settles as settles
 use Rattle.model.proofs.Reorderings.Parts.{part_of_legal}
 use Rattle.model.proofs.Reorderings.Arranged.{length_arranged}
 use Rattle.model.proofs.Reorderings.AnyOrder as reorderings
-use Rattle.model.proofs.Shelf.Tests.{none_some}
 use Rattle.model.proofs.Readers.Sound.{Sound, clean_sound, taken_good}
 use Rattle.model.proofs.Readers.Marks as readers
 use Rattle.model.proofs.Readers.Linked.{linked}
@@ -48,7 +47,7 @@ module _ {C : Type 0} (k : CellKind C) where
 
   pub clean_settled : (l : Limits) → CleanSettled k l
   clean_settled l h None q = (λ e. settles.clean_settled k clean_ordered l h q, λ s. refl)
-  clean_settled l h (Some r) q = (λ e. none_some (sym e), λ s. absurd (settles.raced_unsettled k l h r q s))
+  clean_settled l h (Some r) q = (λ e. cc, λ s. absurd (settles.raced_unsettled k l h r q s))
 
   pub races_real : (l : Limits) → RacesReal k l
   races_real l [] r q = absurd q

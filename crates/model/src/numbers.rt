@@ -38,9 +38,9 @@ impl<C> Event<C> {
         ensures task { result ≡ actor self.now }
     {
         match self {
-            Event::Spawn { task, child: _ } => *task,
+            Event::Spawn { task, .. } => *task,
             Event::End { task } | Event::Open { task } | Event::Close { task } => *task,
-            Event::Read { task, cell: _ } | Event::Write { task, cell: _ } => *task,
+            Event::Read { task, .. } | Event::Write { task, .. } => *task,
         }
     }
 }

@@ -9,9 +9,7 @@ impl fmt::Display for Cell {
     ghost output = { λ c. Some (cell_text c) };
 
     fn fmt<W: fmt::Write>(&self, f: &mut fmt::Formatter<W>) -> fmt::Result {
-        let mailbox = self.mailbox;
-        let block = self.block;
-        write!(f, "{mailbox}/{block}")
+        write!(f, "{}/{}", self.mailbox, self.block)
     }
 }
 
@@ -34,12 +32,11 @@ impl fmt::Display for Layer {
     ghost output = { λ l. Some (layer_text l) };
 
     fn fmt<W: fmt::Write>(&self, f: &mut fmt::Formatter<W>) -> fmt::Result {
-        let text = match self {
+        f.write_str(match self {
             Layer::Bytes => "bytes",
             Layer::Run => "run",
             Layer::Order => "order",
             Layer::Cells => "cells",
-        };
-        f.write_str(text)
+        })
     }
 }

@@ -1,64 +1,38 @@
 -- What stands ahead of a place in an order, and the first of it that passes a test.
-use Rattle.std.proofs.Common.{◌≡◌, ℕ, ◌≤◌, Bool, T, eqb, ◌⊎◌, List, [], ◌∷◌, ◌++◌, Some, Option, sym, refl, ap, ◌∙◌, subst, inl, inr, arith}
-use Rattle.std.proofs.lemmas.Bool.{cases_eq}
+use Rattle.std.proofs.lemmas.Bool.Decides.{nat_tests}
+use Rattle.std.proofs.Common.{◌≡◌, ℕ, ◌≤◌, Bool, T, ◌⊎◌, List, [], ◌∷◌, ◌++◌, Some, Option, sym, refl, ap, ◌∙◌, arith}
 use Rattle.model.specs.Lists.{mem, keep, first_of}
 use Rattle.model.specs.Legal.{ahead, part_ahead}
-use Rattle.model.proofs.Shelf.Tests.{tried, T-cond_yes, eqb_in, cond_yes, cond_no, cond_eq, cond_ne, some_inj}
-use Rattle.model.proofs.Shelf.Lists.{mem_head, mem_tail, mem_of, keep_of, mem_swap, first_of_mem, mem_here, ++_r}
-use Rattle.model.proofs.Orderings.Rows.{Apart, ahead_grow, ahead_head, ahead_of}
+use Rattle.model.proofs.Shelf.Tests.{cond_yes}
+use Rattle.model.proofs.Shelf.Lists.{mem_head, keep_of, first_of_mem, ++_r}
+use Rattle.model.proofs.Orderings.Rows.{Apart, ahead_grow}
 
 -- what is ahead of the latest place, and of an earlier one
 part_same : (q : List ℕ) (z x : ℕ) → z ≡ x → part_ahead (z ∷ q) x ≡ q
-part_same q z x e = cond_eq z x q (part_ahead q x) e
+part_same q z x e = grind arith
 
 pub part_here : (q : List ℕ) (x : ℕ) → part_ahead (x ∷ q) x ≡ q
 part_here q x = part_same q x x refl
 
 pub part_next : (q : List ℕ) (z x : ℕ) → (z ≡ x → ⊥) → part_ahead (z ∷ q) x ≡ part_ahead q x
-part_next q z x n = cond_ne z x q (part_ahead q x) n
+part_next q z x n = grind arith
 
 pub part_mem : (o : List ℕ) (i j : ℕ) → T (ahead o j i) → T (mem j (part_ahead o i))
 part_mem [] i j t = t
-part_mem (x ∷ o) i j t = elim (ahead_of x o j i t) [
-  | inl p ↦ rw (part_same o x i p.0) p.1
-  | inr p ↦ rw (part_next o x i p.0) (part_mem o i j p.1)
-]
+part_mem (x ∷ o) i j t = grind (arith, nat_tests, part_mem o)
 
 pub mem_part : (o : List ℕ) (i j : ℕ) → T (mem j (part_ahead o i)) → T (ahead o j i)
 mem_part [] i j t = t
-mem_part (x ∷ o) i j t = elim (cases_eq x i) [
-  | inl e ↦ T-cond_yes (eqb x i) (mem j o) (ahead o j i) (eqb_in x i e) (subst (λ q. T (mem j q)) (part_same o x i e) t)
-  | inr n ↦ ahead_grow x o j i (mem_part o i j (subst (λ q. T (mem j q)) (part_next o x i n) t))
-]
+mem_part (x ∷ o) i j t = grind (arith, nat_tests, mem_part o)
 
 pub part_ahead_grow : (o : List ℕ) (i y x : ℕ) → T (ahead (part_ahead o i) y x) → T (ahead o y x)
 part_ahead_grow [] i y x t = t
-part_ahead_grow (z ∷ o) i y x t = ahead_grow z o y x (elim (cases_eq z i) [
-  | inl e ↦ subst (λ q. T (ahead q y x)) (part_same o z i e) t
-  | inr n ↦ part_ahead_grow o i y x (subst (λ q. T (ahead q y x)) (part_next o z i n) t)
-])
+part_ahead_grow (z ∷ o) i y x t = grind (arith, nat_tests, part_ahead_grow o, ahead_grow, part_same, part_next)
 
 -- all that passes stands ahead of the first that does
 pub first_top : (w : ℕ → Bool) (s : List ℕ) (x y : ℕ) → first_of (keep w s) ≡ Some x → T (mem y s) → T (w y) → (y ≡ x) ⊎ T (ahead s y x)
 first_top w [] x y f m t = elim m [ ]
-first_top w (z ∷ s) x y f m t =
-    elim (tried (w z)) [
-      | inl q ↦
-          (let e : z ≡ x = some_inj (ap first_of (sym (cond_yes (w z) (z ∷ keep w s) (keep w s) q)) ∙ f) in
-          elim (mem_of y z s m) [
-            | inl r ↦ inl (r ∙ e)
-            | inr r ↦ inr (subst (λ (v : ℕ). T (ahead (z ∷ s) y v)) e (ahead_head z s y r))
-          ])
-      | inr q ↦
-          elim (mem_of y z s m) [
-            | inl r ↦ absurd (q (subst (λ (v : ℕ). T (w v)) r t))
-            | inr r ↦
-                elim (first_top w s x y (ap first_of (sym (cond_no (w z) (z ∷ keep w s) (keep w s) q)) ∙ f) r t) [
-                  | inl g ↦ inl g
-                  | inr g ↦ inr (ahead_grow z s y x g)
-                ]
-          ]
-    ]
+first_top w (z ∷ s) x y f m t = grind (arith, nat_tests, first_top w s)
 
 -- the first of a list is its largest
 abbrev pub Top : List ℕ → Type 0
@@ -78,8 +52,7 @@ same_first (x ∷ xs) (y ∷ ys) f g a b =
 -- an order cut at a place
 part_skip : (p q : List ℕ) (x : ℕ) → (T (mem x p) → ⊥) → part_ahead (p ++ q) x ≡ part_ahead q x
 part_skip [] q x n = refl
-part_skip (z ∷ p) q x n =
-    part_next (p ++ q) z x (λ e. n (mem_here x z p (sym e))) ∙ part_skip p q x (λ t. n (mem_tail x z p t))
+part_skip (z ∷ p) q x n = grind (arith, nat_tests, part_skip p)
 
 apart_back : (p q : List ℕ) → Apart (p ++ q) → Apart q
 apart_back [] q a = a
@@ -87,11 +60,7 @@ apart_back (x ∷ p) q a = apart_back p q a.1
 
 apart_cross : (p q : List ℕ) → Apart (p ++ q) → (i : ℕ) → T (mem i p) → T (mem i q) → ⊥
 apart_cross [] q a i s t = s
-apart_cross (x ∷ p) q a i s t =
-    elim (mem_of i x p s) [
-      | inl e ↦ a.0 (++_r x p q (mem_swap i x q e t))
-      | inr r ↦ apart_cross p q a.1 i r t
-    ]
+apart_cross (x ∷ p) q a i s t = grind (arith, nat_tests, apart_cross p, ++_r)
 
 -- y follows x where they stand side by side, and does not where they stand the other way round
 pub swapped : (w : ℕ → Bool) (later sooner : List ℕ) (x y : ℕ) → (x ≡ y → ⊥) → T (w x)

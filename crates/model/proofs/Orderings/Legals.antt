@@ -1,17 +1,15 @@
 -- Legal orders: what they hold, that the recorded order is one, and two that put an unordered pair side by side.
-use Rattle.std.proofs.Common.{◌≡◌, ℕ, ◌<◌, Bool, not, ◌||◌, T, eqb, ◌⊎◌, List, ◌∷◌, ◌++◌, length, sym, subst, inl, inr, arith, eqb→eq, T_not}
-use lib.Dec.{eqb_refl, not_T}
-use Rattle.std.proofs.lemmas.Bool.{cases_eq}
+use Rattle.std.proofs.lemmas.Bool.Decides.{nat_tests}
+use Rattle.std.proofs.Common.{◌≡◌, ℕ, ◌<◌, Bool, not, ◌||◌, T, eqb, ◌⊎◌, List, ◌∷◌, ◌++◌, length, sym, subst, inl, inr, arith}
 use Rattle.model.specs.Lists.{mem, below, keep}
 use Rattle.model.specs.Past.{Past}
 use Rattle.model.specs.Before.{before}
 use Rattle.model.specs.Legal.{ahead, Legal, Beside}
-use Rattle.model.proofs.Shelf.Tests.{tried, or_l, or_r, or_of}
-use Rattle.model.proofs.Shelf.Lists.{mem_head, mem_tail, mem_of, mem_swap, keep_in, keep_of, ++_l, ++_r, ++_of}
+use Rattle.model.proofs.Shelf.Lists.{mem_tail, keep_in, keep_of, ++_l, ++_r, ++_of}
 use Rattle.model.proofs.Shelf.Lists.{below_in, below_of, length_below}
 use Rattle.model.proofs.Shelf.Befores.{before_lt, before_in, before_trans, happens_lt}
 use Rattle.model.proofs.Orderings.Rows.{Apart, covers_apart, covers_bound, apart_length, apart-++, apart_keep, below_apart, below_ahead}
-use Rattle.model.proofs.Orderings.Rows.{ahead_irrefl, ahead_asym, ahead_grow, ahead_head, ahead_keep, ahead-++_l, ahead-++_r, ahead-++_lr}
+use Rattle.model.proofs.Orderings.Rows.{ahead_asym, ahead_grow, ahead_head, ahead_keep, ahead-++_l, ahead-++_r, ahead-++_lr}
 
 module _ {C : Type 0} (h : Past C) (o : List ℕ) (legal : Legal h o) where
   -- no place twice, and exactly the places of the past
@@ -21,10 +19,7 @@ module _ {C : Type 0} (h : Past C) (o : List ℕ) (legal : Legal h o) where
   pub legal_bound : (i : ℕ) → T (mem i o) → i < length h
   legal_bound i t = covers_bound (length h) o legal.whole legal.each i t
 
-  -- `ahead` is a strict order on the places
-  pub legal_irrefl : (i : ℕ) → T (ahead o i i) → ⊥
-  legal_irrefl i t = ahead_irrefl o legal_apart i t
-
+  -- of two places one at most is ahead of the other
   pub legal_asym : (i j : ℕ) → T (ahead o i j) → T (ahead o j i) → ⊥
   legal_asym i j s t = ahead_asym o legal_apart i j s t
 
@@ -81,31 +76,22 @@ module _ {C : Type 0} (h : Past C) (p q : ℕ → Bool) (u v : ℕ) (s : Split h
   late_of i t = let r = keep_of q (below n) i t in (below_of n i r.0, r.1)
 
   front_of : (i : ℕ) → T (mem i front) → (i ≡ u) ⊎ ((i ≡ v) ⊎ T (mem i soon))
-  front_of i t = elim (mem_of i u (v ∷ soon) t) [ inl e ↦ inl e | inr r ↦ inr (mem_of i v soon r) ]
+  front_of i t = grind arith
 
   u_front : (i : ℕ) → i ≡ u → T (mem i front)
-  u_front i e = mem_swap u i front (sym e) (mem_head u (v ∷ soon))
+  u_front i e = grind arith
 
   v_front : (i : ℕ) → i ≡ v → T (mem i front)
-  v_front i e = mem_swap v i front (sym e) (mem_tail v u (v ∷ soon) (mem_head v soon))
+  v_front i e = grind arith
 
   soon_front : (i : ℕ) → T (mem i soon) → T (mem i front)
-  soon_front i t = mem_tail i u (v ∷ soon) (mem_tail i v soon t)
+  soon_front i t = grind arith
 
   front_apart : Apart front
-  front_apart = (
-    λ t. elim (mem_of u v soon t) [ inl e ↦ s.two e | inr r ↦ s.not_u (soon_of u r).1 ],
-    (λ t. s.not_v (soon_of v t).1, apart_keep p (below n) (below_apart n)),
-  )
+  front_apart = grind (arith, nat_tests, soon_of, apart_keep, below_apart)
 
   disjoint : (i : ℕ) → T (mem i late) → T (mem i front) → ⊥
-  disjoint i a b =
-      let r = (late_of i a).1 in
-      elim (front_of i b) [
-        | inl e ↦ s.q_u (subst (λ (x : ℕ). T (q x)) e r)
-        | inr (inl e) ↦ s.q_v (subst (λ (x : ℕ). T (q x)) e r)
-        | inr (inr t) ↦ s.q_p i r (soon_of i t).1
-      ]
+  disjoint i a b = grind (arith, nat_tests, late_of, front_of, soon_of)
 
   bound : (i : ℕ) → T (mem i (late ++ front)) → i < n
   bound i t =
@@ -120,28 +106,10 @@ module _ {C : Type 0} (h : Past C) (p q : ℕ → Bool) (u v : ℕ) (s : Split h
 
   -- where a place stands
   place : (i : ℕ) → i < n → T (mem i soon) ⊎ ((i ≡ u) ⊎ ((i ≡ v) ⊎ T (mem i late)))
-  place i l =
-      elim (tried (p i)) [
-        | inl t ↦ inl (keep_in p (below n) i (below_in n i l) t)
-        | inr t ↦
-            elim (cases_eq i u) [
-              | inl e ↦ inr (inl e)
-              | inr e ↦
-                  elim (cases_eq i v) [
-                    | inl f ↦ inr (inr (inl f))
-                    | inr f ↦ inr (inr (inr (keep_in q (below n) i (below_in n i l) (s.q_in i t e f))))
-                  ]
-            ]
-      ]
+  place i l = grind (arith, nat_tests, keep_in, below_in)
 
   covers : (i : ℕ) → i < n → T (mem i (late ++ front))
-  covers i l =
-      elim (place i l) [
-        | inl t ↦ ++_r i late front (soon_front i t)
-        | inr (inl e) ↦ ++_r i late front (u_front i e)
-        | inr (inr (inl e)) ↦ ++_r i late front (v_front i e)
-        | inr (inr (inr t)) ↦ ++_l i late front t
-      ]
+  covers i l = grind (arith, nat_tests, place, ++_r, soon_front, u_front, v_front, ++_l)
 
   keeping : (i j : ℕ) → T (before h i j) → T (ahead (late ++ front) i j)
   keeping i j b =
@@ -188,20 +156,19 @@ module _ {C : Type 0} (h : Past C) (a b : ℕ) (low_a : a < length h) (low_b : b
   later_test i = not (sooner_test i || (eqb i a || eqb i b))
 
   sooner_of : (i : ℕ) → T (sooner_test i) → T (before h i a) ⊎ T (before h i b)
-  sooner_of i t = or_of (before h i a) (before h i b) t
+  sooner_of i t = grind arith
 
   sooner_a : (i : ℕ) → T (before h i a) → T (sooner_test i)
-  sooner_a i t = or_l (before h i a) (before h i b) t
+  sooner_a i t = grind arith
 
   sooner_b : (i : ℕ) → T (before h i b) → T (sooner_test i)
-  sooner_b i t = or_r (before h i a) (before h i b) t
+  sooner_b i t = grind arith
 
   before_irr : (i : ℕ) → T (before h i i) → ⊥
   before_irr i t = let r = before_lt h i i t in omega arith
 
   sooner_down : (i j : ℕ) → T (before h i j) → T (sooner_test j) → T (sooner_test i)
-  sooner_down i j s t =
-      elim (sooner_of j t) [ inl r ↦ sooner_a i (before_trans h i j a s r) | inr r ↦ sooner_b i (before_trans h i j b s r) ]
+  sooner_down i j s t = grind (arith, nat_tests, before_trans, sooner_b)
 
   not_sooner_a : T (sooner_test a) → ⊥
   not_sooner_a t = elim (sooner_of a t) [ inl r ↦ before_irr a r | inr r ↦ not_ab r ]
@@ -210,25 +177,16 @@ module _ {C : Type 0} (h : Past C) (a b : ℕ) (low_a : a < length h) (low_b : b
   not_sooner_b t = elim (sooner_of b t) [ inl r ↦ not_ba r | inr r ↦ before_irr b r ]
 
   later_in : (i : ℕ) → (T (sooner_test i) → ⊥) → (i ≡ a → ⊥) → (i ≡ b → ⊥) → T (later_test i)
-  later_in i f g k =
-      not_T (sooner_test i || (eqb i a || eqb i b))
-      (λ t. elim (or_of (sooner_test i) (eqb i a || eqb i b) t) [
-        | inl r ↦ f r
-        | inr r ↦ elim (or_of (eqb i a) (eqb i b) r) [ inl w ↦ g (eqb→eq i a w) | inr w ↦ k (eqb→eq i b w) ]
-      ])
+  later_in i f g k = grind arith
 
   later_sooner : (i : ℕ) → T (later_test i) → T (sooner_test i) → ⊥
-  later_sooner i t r = T_not (sooner_test i || (eqb i a || eqb i b)) t (or_l (sooner_test i) (eqb i a || eqb i b) r)
+  later_sooner i t r = grind arith
 
   later_a : T (later_test a) → ⊥
-  later_a t =
-      T_not (sooner_test a || (eqb a a || eqb a b)) t
-      (or_r (sooner_test a) (eqb a a || eqb a b) (or_l (eqb a a) (eqb a b) (eqb_refl a)))
+  later_a t = grind arith
 
   later_b : T (later_test b) → ⊥
-  later_b t =
-      T_not (sooner_test b || (eqb b a || eqb b b)) t
-      (or_r (sooner_test b) (eqb b a || eqb b b) (or_r (eqb b a) (eqb b b) (eqb_refl b)))
+  later_b t = grind arith
 
   pub beside : Beside h a b
   beside =

@@ -1,4 +1,6 @@
 -- What an answer says: its tests failed, and with a race its kind, the two accesses, and that nothing orders them.
+use Rattle.std.proofs.lemmas.Option.{same_Some}
+use Rattle.std.proofs.lemmas.Bool.Decides.{nat_tests}
 use Rattle.std.proofs.Common.{◌≡◌, ℕ, suc, ◌+◌, Bool, true, false, cond, not, ◌&&◌, ◌||◌, T, eqb, ltb, leb, ◌⊎◌, List, [], ◌∷◌, length, Some, None, Option, sym, refl, ap, ◌∙◌, subst, inl, inr, arith}
 use Rattle.model.specs.declared.Event.{Event}
 use Rattle.model.specs.declared.Event.TheVariants.{Spawn, End, Open, Close, Read, Write}
@@ -10,11 +12,11 @@ use Rattle.model.specs.Past.{Past, actor, own, innermost, at, behind, made, spaw
 use Rattle.model.specs.Before.{before, serial}
 use Rattle.model.specs.Cells.{CellKind, reads, writes, accesses, cell_held, cells_held}
 use Rattle.model.specs.Cells.{last_write, reads_since, unordered_reads, left_read, right_read}
-use Rattle.model.specs.Rules.{Limits, Answer, taken, refused, refusal, judge, by_kind, accessed, race_of, race_with}
+use Rattle.model.specs.Rules.{Limits, Answer, taken, refused, refusal, judge, by_kind, race_of, race_with}
 use Rattle.model.specs.Rules.{numbers_fit, steps_held}
 use Rattle.model.specs.Legal.{Beside}
 use Rattle.model.specs.Laws.{RacedBy, of_kind}
-use Rattle.model.proofs.Shelf.Tests.{tried, cond_yes, cond_no, or_l, some_inj, none_some, or_r, and_in, and_l, and_r}
+use Rattle.model.proofs.Shelf.Tests.{tried, cond_no}
 use Rattle.model.proofs.Shelf.Lists.{mem_of, keep_of, first_of_mem, last_of_mem}
 use Rattle.model.proofs.Shelf.Places.{behind_new, at_new, at_lt, at_grow}
 use Rattle.model.proofs.Shelf.Befores.{before_lt}
@@ -42,12 +44,7 @@ module _ {C : Type 0} (k : CellKind C) where
 
   pub passes : (ps : List (Bool × ℕ)) (a : Answer C) (m : Option (Race C)) → refusal ps a ≡ taken m → Pass ps × (a ≡ taken m)
   passes [] a m e = (tt, e)
-  passes (p ∷ ps) a m e =
-      let r = passed p.0 p.1 (refusal ps a) m e in let s = passes ps a m r.1 in ((r.0, s.0), s.1)
-
-  none_refuses : (ps : List (Bool × ℕ)) (a : Answer C) → Pass ps → refusal ps a ≡ a
-  none_refuses [] a p = refl
-  none_refuses (q ∷ ps) a p = cond_no q.0 (refused q.1) (refusal ps a) p.0 ∙ none_refuses ps a p.1
+  passes (p ∷ ps) a m e = grind (arith, passes ps)
 
   -- the tests that `judge` begins with
   abbrev pub first_tests : Limits → Past C → Event C → List (Bool × ℕ)
@@ -68,27 +65,9 @@ module _ {C : Type 0} (k : CellKind C) where
   kind_tests l h (Read t c) = (ended h t, 13) ∷ (not (cell_held k h c) && leb l.cells (cells_held k h), 18) ∷ []
   kind_tests l h (Write t c) = (ended h t, 13) ∷ (not (cell_held k h c) && leb l.cells (cells_held k h), 18) ∷ []
 
-  accessed_of : (l : Limits) (h : Past C) (c : C) (r m : Option (Race C)) → accessed k l h c r ≡ taken m → r ≡ m
-  accessed_of l h c None m e =
-      taken_inj None m (passes ((not (cell_held k h c) && leb l.cells (cells_held k h), 18) ∷ []) (taken None) m e).1
-  accessed_of l h c (Some s) m e = taken_inj (Some s) m e
-
   by_kind_of : (l : Limits) (h : Past C) (e : Event C) (m : Option (Race C)) → by_kind k l h e ≡ taken m → race_of k h e ≡ m
   by_kind_of l h (Spawn t u) m q = taken_inj None m (passes (kind_tests l h (Spawn t u)) (taken None) m q).1
-  by_kind_of l h (End t) m q = taken_inj None m (passes (kind_tests l h (End t)) (taken None) m q).1
-  by_kind_of l h (Open t) m q = taken_inj None m (passes (kind_tests l h (Open t)) (taken None) m q).1
-  by_kind_of l h (Close t) m q = taken_inj None m (passes (kind_tests l h (Close t)) (taken None) m q).1
-  by_kind_of l h (Read t c) m q = accessed_of l h c (race_of k h (Read t c)) m (passed (ended h t) 13 _ m q).1
-  by_kind_of l h (Write t c) m q = accessed_of l h c (race_of k h (Write t c)) m (passed (ended h t) 13 _ m q).1
-
-  -- an event that makes no race is judged by tests alone
-  by_tests : (l : Limits) (h : Past C) (e : Event C) → race_of k h e ≡ None → by_kind k l h e ≡ refusal (kind_tests l h e) (taken None)
-  by_tests l h (Spawn t u) q = refl
-  by_tests l h (End t) q = refl
-  by_tests l h (Open t) q = refl
-  by_tests l h (Close t) q = refl
-  by_tests l h (Read t c) q = ap (λ r. refusal ((ended h t, 13) ∷ []) (accessed k l h c r)) q
-  by_tests l h (Write t c) q = ap (λ r. refusal ((ended h t, 13) ∷ []) (accessed k l h c r)) q
+  by_kind_of l h e m q = grind arith
 
   -- so it is taken with no race exactly where it makes none and no test passes
   pub clean_passes : (l : Limits) (h : Past C) (e : Event C)
@@ -96,12 +75,11 @@ module _ {C : Type 0} (k : CellKind C) where
   clean_passes l h e q =
       let r = passes (first_tests l h e) (by_kind k l h e) None q in
       let free = by_kind_of l h e None r.1 in
-      (r.0, (passes (kind_tests l h e) (taken None) None (sym (by_tests l h e free) ∙ r.1)).0)
+      grind arith
 
   pub passes_clean : (l : Limits) (h : Past C) (e : Event C)
       → race_of k h e ≡ None → Pass (first_tests l h e) → Pass (kind_tests l h e) → judge k l h e ≡ taken None
-  passes_clean l h e free p q =
-      none_refuses (first_tests l h e) (by_kind k l h e) p ∙ (by_tests l h e free ∙ none_refuses (kind_tests l h e) (taken None) q)
+  passes_clean l h e free p q = grind arith
 
   -- a taken event is answered with the race that it makes, or with none
   pub taken_race : (l : Limits) (h : Past C) (e : Event C) (m : Option (Race C)) → judge k l h e ≡ taken m → race_of k h e ≡ m
@@ -115,12 +93,11 @@ module _ {C : Type 0} (k : CellKind C) where
   stands_old f e h c i s = (s.0, at_grow h e i s.0 s.1, s.2)
 
   pub last_write_of : (h : Past C) (c : C) (i : ℕ) → last_write k h c ≡ Some i → Stands (writes k) h c i
-  last_write_of [] c i q = none_some q
+  last_write_of [] c i q = cc
   last_write_of (e ∷ h) c i q =
       elim (tried (writes k c e)) [
         | inl t ↦
-            (let z = some_inj (sym (cond_yes (writes k c e) (Some (length h)) (last_write k h c) t) ∙ q) in
-            (e, at_new h e i (sym z), t))
+            grind arith
         | inr t ↦
             (let q' = sym (cond_no (writes k c e) (Some (length h)) (last_write k h c) t) ∙ q in
             stands_old (writes k) e h c i (last_write_of h c i q'))
@@ -157,11 +134,8 @@ module _ {C : Type 0} (k : CellKind C) where
 
   pub sides : (kind : RaceKind) (c : C) (d e : Event C) → T (of_kind k kind c d e)
       → (T (writes k c d) × T (accesses k c e)) ⊎ (T (reads k c d) × T (writes k c e))
-  sides WriteRead c d e t =
-      inl (and_l (writes k c d) (reads k c e) t, or_l (reads k c e) (writes k c e) (and_r (writes k c d) (reads k c e) t))
-  sides WriteWrite c d e t =
-      inl (and_l (writes k c d) (writes k c e) t, or_r (reads k c e) (writes k c e) (and_r (writes k c d) (writes k c e) t))
-  sides ReadWrite c d e t = inr (and_l (reads k c d) (writes k c e) t, and_r (reads k c d) (writes k c e) t)
+  sides WriteRead c d e t = grind arith
+  sides f c d e t = grind arith
 
   -- what a race of the next event is
   pub record Clash (h : Past C) (e : Event C) (r : Race C) : Type 0 where
@@ -181,9 +155,9 @@ module _ {C : Type 0} (k : CellKind C) where
   race_with_of kind h e c None other r f g q = g q
   race_with_of kind h e c (Some i) other r f g q =
       elim (tried (before (e ∷ h) i (length h))) [
-        | inl t ↦ g (sym (cond_yes (before (e ∷ h) i (length h)) other (Some race) t) ∙ q)
+        | inl t ↦ grind arith
         | inr t ↦
-            subst (λ (x : Race C). Clash h e x) (some_inj (sym (cond_no (before (e ∷ h) i (length h)) other (Some race) t) ∙ q))
+            subst (λ (x : Race C). Clash h e x) (same_Some _ _ (sym (cond_no (before (e ∷ h) i (length h)) other (Some race) t) ∙ q))
             (let w = f i refl in record { latest = refl; it = w.0; found = w.1; free = t; touch = w.2 })
       ]
     where
@@ -192,21 +166,15 @@ module _ {C : Type 0} (k : CellKind C) where
 
   meets : (f : C → Event C → Bool) (h : Past C) (c : C) (i : ℕ)
       → Stands f h c i → (d : Event C) × (at h i ≡ Some d) × T (f c d && k.same c c)
-  meets f h c i w = (w.0, w.1, and_in (f c w.0) (k.same c c) w.2 (k.same_refl c))
+  meets f h c i w = grind arith
 
   race_clash : (h : Past C) (e : Event C) (r : Race C) → race_of k h e ≡ Some r → Clash h e r
-  race_clash h (Spawn t u) r q = none_some q
-  race_clash h (End t) r q = none_some q
-  race_clash h (Open t) r q = none_some q
-  race_clash h (Close t) r q = none_some q
-  race_clash h (Read t c) r q =
-      race_with_of WriteRead h (Read t c) c (last_write k h c) None r
-      (λ i m. meets (writes k) h c i (last_write_of h c i m)) (λ z. none_some z) q
   race_clash h (Write t c) r q =
       race_with_of WriteWrite h (Write t c) c (last_write k h c) _ r (λ i m. meets (writes k) h c i (last_write_of h c i m))
       (race_with_of ReadWrite h (Write t c) c (left_read k h c) _ r (λ i m. meets (reads k) h c i (left_read_of h c i m))
       (race_with_of ReadWrite h (Write t c) c (right_read k h c) None r (λ i m. meets (reads k) h c i (right_read_of h c i m))
-      (λ z. none_some z))) q
+      (λ z. cc))) q
+  race_clash h e r q = grind (arith, nat_tests, race_with_of, meets, last_write_of)
 
   pub raced_clash : (l : Limits) (e : Event C) (h : Past C) (r : Race C) → RacedBy k l (e ∷ h) r → Clash h e r
   raced_clash l e h r q = race_clash h e r (taken_race l h e (Some r) q.0)
@@ -217,12 +185,7 @@ module _ {C : Type 0} (k : CellKind C) where
 
   -- any two places, the second the latest, that are unordered
   pub clash_beside : (e : Event C) (h : Past C) (r : Race C) → Clash h e r → Beside (e ∷ h) r.first r.second
-  clash_beside e h r w =
-      let lo = at_lt h r.first w.it w.found in
-      let la = w.latest in
-      beside (e ∷ h) r.first r.second (omega arith) (omega arith) (omega arith)
-      (λ t. w.free (subst (λ (x : ℕ). T (before (e ∷ h) r.first x)) la t))
-      (λ t. (let b = before_lt (e ∷ h) r.second r.first t in omega arith))
+  clash_beside e h r w = grind (arith, nat_tests, at_lt, beside, before_lt)
 
   pub raced_beside : (l : Limits) (h : Past C) (r : Race C) → RacedBy k l h r → Beside h r.first r.second
   raced_beside l [] r q = elim q [ ]

@@ -1,11 +1,10 @@
 -- Orders of places as lists: no place twice, `ahead` as a strict order, and how many places a list can hold.
-use Rattle.std.proofs.Common.{◌≡◌, ℕ, zero, suc, ◌+◌, ◌<◌, ◌≤◌, Bool, cond, T, eqb, ◌⊎◌, List, [], ◌∷◌, ◌++◌, length, sym, refl, ap, ◌∙◌, subst, inl, inr, arith, eqb→eq, length-append}
-use lib.Dec.{eqb_refl}
-use Rattle.std.proofs.lemmas.Bool.{cases_lt, cases_eq}
+use Rattle.std.proofs.lemmas.Bool.Decides.{nat_tests}
+use Rattle.std.proofs.Common.{◌≡◌, ℕ, zero, suc, ◌+◌, ◌<◌, ◌≤◌, Bool, cond, T, eqb, ◌⊎◌, List, [], ◌∷◌, ◌++◌, length, sym, refl, inl, inr, arith, length-append}
+use Rattle.std.proofs.lemmas.Bool.{cases_lt}
 use Rattle.model.specs.Lists.{mem, below, keep}
 use Rattle.model.specs.Legal.{ahead}
-use Rattle.model.proofs.Shelf.Tests.{tried, cond_yes, cond_no, cond_eq, cond_ne, T-cond_yes, T-cond_both, T-cond_of, eqb_in, ne_of}
-use Rattle.model.proofs.Shelf.Lists.{mem_head, mem_here, mem_tail, mem_of, mem_rest, mem_swap, keep_in, keep_of, ++_l, ++_r, ++_of}
+use Rattle.model.proofs.Shelf.Lists.{mem_head, mem_here, mem_tail, mem_of, mem_swap, keep_in, keep_of, ++_l, ++_r, ++_of}
 use Rattle.model.proofs.Shelf.Lists.{below_in, below_of, length_below}
 
 -- no number stands twice
@@ -20,16 +19,7 @@ without x (y ∷ o) = cond (eqb x y) o (y ∷ without x o)
 
 mem_without : (x i : ℕ) (o : List ℕ) → (i ≡ x → ⊥) → T (mem i o) → T (mem i (without x o))
 mem_without x i [] n t = t
-mem_without x i (y ∷ o) n t =
-    elim (tried (eqb x y)) [
-      | inl s ↦ rw (cond_yes (eqb x y) o (y ∷ without x o) s)
-          (elim (mem_of i y o t) [ inl e ↦ absurd (n (e ∙ sym (eqb→eq x y s))) | inr r ↦ r ])
-      | inr s ↦ rw (cond_no (eqb x y) o (y ∷ without x o) s)
-          (elim (mem_of i y o t) [
-            | inl e ↦ mem_here i y (without x o) e
-            | inr r ↦ mem_tail i y (without x o) (mem_without x i o n r)
-          ])
-    ]
+mem_without x i (y ∷ o) n t = grind (arith, mem_without x i o)
 
 -- what f gives of the numbers of a list, added up
 abbrev pub sum : (ℕ → ℕ) → List ℕ → ℕ
@@ -38,16 +28,7 @@ sum f (x ∷ s) = f x + sum f s
 
 sum_without : (f : ℕ → ℕ) (x : ℕ) (s : List ℕ) → T (mem x s) → sum f s ≡ f x + sum f (without x s)
 sum_without f x [] q = absurd q
-sum_without f x (y ∷ s) q = elim (cases_eq x y) [
-  | inl e ↦
-      (let u : sum f (without x (y ∷ s)) ≡ sum f s = ap (sum f) (cond_eq x y s (y ∷ without x s) e) in
-      let v : f x ≡ f y = ap f e in
-      omega arith)
-  | inr n ↦
-      (let u : sum f (without x (y ∷ s)) ≡ f y + sum f (without x s) = ap (sum f) (cond_ne x y s (y ∷ without x s) n) in
-      let v : sum f s ≡ f x + sum f (without x s) = sum_without f x s (mem_rest x y s n q) in
-      omega arith)
-]
+sum_without f x (y ∷ s) q = grind (arith, sum_without f x s)
 
 -- a list with no number twice has no greater a sum than one that holds all its numbers
 pub sum_le : (f : ℕ → ℕ) (o q : List ℕ) → Apart o → ((i : ℕ) → T (mem i o) → T (mem i q)) → sum f o ≤ sum f q
@@ -63,8 +44,7 @@ length_sum [] = refl
 length_sum (x ∷ o) = let r = length_sum o in omega arith
 
 length_without : (x : ℕ) (o : List ℕ) → T (mem x o) → length o ≡ suc (length (without x o))
-length_without x o t =
-    let a = length_sum o in let b = length_sum (without x o) in let r = sum_without (λ _. 1) x o t in omega arith
+length_without x o t = grind (arith, nat_tests, length_sum, sum_without)
 
 apart_le : (o q : List ℕ) → Apart o → ((i : ℕ) → T (mem i o) → T (mem i q)) → length o ≤ length q
 apart_le o q a f = let b = length_sum o in let c = length_sum q in let r = sum_le (λ _. 1) o q a f in omega arith
@@ -125,47 +105,25 @@ apart_length n o a f g = let c = covers_le n o g in let d = apart_bound n o a f 
 -- ahead
 pub ahead_mem_l : (o : List ℕ) (i j : ℕ) → T (ahead o i j) → T (mem i o)
 ahead_mem_l [] i j t = elim t [ ]
-ahead_mem_l (x ∷ o) i j t =
-    elim (T-cond_of (eqb x j) (mem i o) (ahead o i j) t) [
-      | inl p ↦ mem_tail i x o p.1
-      | inr p ↦ mem_tail i x o (ahead_mem_l o i j p.1)
-    ]
+ahead_mem_l (x ∷ o) i j t = grind (arith, ahead_mem_l o)
 
 pub ahead_grow : (x : ℕ) (o : List ℕ) (i j : ℕ) → T (ahead o i j) → T (ahead (x ∷ o) i j)
-ahead_grow x o i j t = T-cond_both (eqb x j) (mem i o) (ahead o i j) (ahead_mem_l o i j t) t
+ahead_grow x o i j t = grind (arith, ahead_mem_l)
 
 pub ahead_head : (x : ℕ) (o : List ℕ) (i : ℕ) → T (mem i o) → T (ahead (x ∷ o) i x)
-ahead_head x o i t = T-cond_yes (eqb x x) (mem i o) (ahead o i x) (eqb_refl x) t
+ahead_head x o i t = grind arith
 
 -- what ahead says at a longer list
 pub ahead_of : (x : ℕ) (o : List ℕ) (i j : ℕ) → T (ahead (x ∷ o) i j) → ((x ≡ j) × T (mem i o)) ⊎ ((x ≡ j → ⊥) × T (ahead o i j))
-ahead_of x o i j t =
-    elim (T-cond_of (eqb x j) (mem i o) (ahead o i j) t) [
-      | inl p ↦ inl (eqb→eq x j p.0, p.1)
-      | inr p ↦ inr (ne_of x j p.0, p.1)
-    ]
+ahead_of x o i j t = grind arith
 
 pub ahead_irrefl : (o : List ℕ) → Apart o → (i : ℕ) → T (ahead o i i) → ⊥
 ahead_irrefl [] a i t = t
-ahead_irrefl (x ∷ o) a i t =
-    elim (ahead_of x o i i t) [
-      | inl p ↦ a.0 (mem_swap i x o (sym p.0) p.1)
-      | inr p ↦ ahead_irrefl o a.1 i p.1
-    ]
+ahead_irrefl (x ∷ o) a i t = grind (arith, nat_tests, ahead_irrefl o)
 
 ahead_trans : (o : List ℕ) → Apart o → (i j k : ℕ) → T (ahead o i j) → T (ahead o j k) → T (ahead o i k)
 ahead_trans [] a i j k s t = elim s [ ]
-ahead_trans (x ∷ o) a i j k s t =
-    elim (ahead_of x o j k t) [
-      | inl p ↦
-          (let m : T (mem i o) = elim (ahead_of x o i j s) [ inl q ↦ q.1 | inr q ↦ ahead_mem_l o i j q.1 ] in
-          T-cond_yes (eqb x k) (mem i o) (ahead o i k) (eqb_in x k p.0) m)
-      | inr p ↦
-          elim (ahead_of x o i j s) [
-            | inl q ↦ absurd (a.0 (mem_swap j x o (sym q.0) (ahead_mem_l o j k p.1)))
-            | inr q ↦ ahead_grow x o i k (ahead_trans o a.1 i j k q.1 p.1)
-          ]
-    ]
+ahead_trans (x ∷ o) a i j k s t = grind (arith, nat_tests, ahead_trans o, ahead_of, ahead_mem_l, ahead_grow)
 
 pub ahead_asym : (o : List ℕ) → Apart o → (i j : ℕ) → T (ahead o i j) → T (ahead o j i) → ⊥
 ahead_asym o a i j s t = ahead_irrefl o a i (ahead_trans o a i j i s t)
@@ -173,11 +131,7 @@ ahead_asym o a i j s t = ahead_irrefl o a i (ahead_trans o a i j i s t)
 -- the recorded order
 pub below_ahead : (n i j : ℕ) → i < j → j < n → T (ahead (below n) i j)
 below_ahead zero i j h k = absurd (omega arith)
-below_ahead (suc n) i j h k =
-    elim (cases_eq n j) [
-      | inl e ↦ T-cond_yes (eqb n j) (mem i (below n)) (ahead (below n) i j) (eqb_in n j e) (below_in n i (omega arith))
-      | inr e ↦ ahead_grow n (below n) i j (below_ahead n i j h (omega arith))
-    ]
+below_ahead (suc n) i j h k = grind (arith, nat_tests, below_ahead n, below_in, ahead_grow)
 
 -- joined lists and kept parts
 pub apart-++ : (p q : List ℕ) → Apart p → Apart q → ((i : ℕ) → T (mem i p) → T (mem i q) → ⊥) → Apart (p ++ q)
@@ -189,27 +143,11 @@ apart-++ (x ∷ p) q a b d = (
 
 pub apart_keep : (f : ℕ → Bool) (o : List ℕ) → Apart o → Apart (keep f o)
 apart_keep f [] a = tt
-apart_keep f (x ∷ o) a =
-    elim (tried (f x)) [
-      | inl s ↦ rw (cond_yes (f x) (x ∷ keep f o) (keep f o) s) (λ t. a.0 (keep_of f o x t).0, apart_keep f o a.1)
-      | inr s ↦ rw (cond_no (f x) (x ∷ keep f o) (keep f o) s) (apart_keep f o a.1)
-    ]
+apart_keep f (x ∷ o) a = grind (arith, nat_tests, apart_keep f o, keep_of)
 
 pub ahead_keep : (f : ℕ → Bool) (o : List ℕ) (i j : ℕ) → T (f i) → T (f j) → T (ahead o i j) → T (ahead (keep f o) i j)
 ahead_keep f [] i j a b t = elim t [ ]
-ahead_keep f (x ∷ o) i j a b t =
-    elim (tried (f x)) [
-      | inl s ↦ rw (cond_yes (f x) (x ∷ keep f o) (keep f o) s)
-          (elim (ahead_of x o i j t) [
-            | inl p ↦ T-cond_yes (eqb x j) (mem i (keep f o)) (ahead (keep f o) i j) (eqb_in x j p.0) (keep_in f o i p.1 a)
-            | inr p ↦ ahead_grow x (keep f o) i j (ahead_keep f o i j a b p.1)
-          ])
-      | inr s ↦ rw (cond_no (f x) (x ∷ keep f o) (keep f o) s)
-          (elim (ahead_of x o i j t) [
-            | inl p ↦ absurd (s (subst (λ (y : ℕ). T (f y)) (sym p.0) b))
-            | inr p ↦ ahead_keep f o i j a b p.1
-          ])
-    ]
+ahead_keep f (x ∷ o) i j a b t = grind (arith, nat_tests, ahead_keep f o, ahead_of, keep_in, ahead_grow)
 
 pub ahead-++_r : (p q : List ℕ) (i j : ℕ) → T (ahead q i j) → T (ahead (p ++ q) i j)
 ahead-++_r [] q i j t = t
@@ -217,16 +155,8 @@ ahead-++_r (x ∷ p) q i j t = ahead_grow x (p ++ q) i j (ahead-++_r p q i j t)
 
 pub ahead-++_l : (p q : List ℕ) (i j : ℕ) → T (ahead p i j) → T (ahead (p ++ q) i j)
 ahead-++_l [] q i j t = elim t [ ]
-ahead-++_l (x ∷ p) q i j t =
-    elim (ahead_of x p i j t) [
-      | inl r ↦ T-cond_yes (eqb x j) (mem i (p ++ q)) (ahead (p ++ q) i j) (eqb_in x j r.0) (++_l i p q r.1)
-      | inr r ↦ ahead_grow x (p ++ q) i j (ahead-++_l p q i j r.1)
-    ]
+ahead-++_l (x ∷ p) q i j t = grind (arith, nat_tests, ahead-++_l p, ahead_of, ++_l, ahead_grow)
 
 pub ahead-++_lr : (p q : List ℕ) (i j : ℕ) → T (mem i q) → T (mem j p) → T (ahead (p ++ q) i j)
 ahead-++_lr [] q i j s t = elim t [ ]
-ahead-++_lr (x ∷ p) q i j s t =
-    elim (mem_of j x p t) [
-      | inl e ↦ T-cond_yes (eqb x j) (mem i (p ++ q)) (ahead (p ++ q) i j) (eqb_in x j (sym e)) (++_r i p q s)
-      | inr r ↦ ahead_grow x (p ++ q) i j (ahead-++_lr p q i j s r)
-    ]
+ahead-++_lr (x ∷ p) q i j s t = grind (arith, nat_tests, ahead-++_lr p, ++_r, ahead_grow)

@@ -1,6 +1,6 @@
 -- Clean pasts are settled, and raced ones are not.
+use Rattle.std.proofs.lemmas.Bool.Decides.{nat_tests}
 use Rattle.std.proofs.Common.{◌≡◌, ℕ, ◌<◌, Bool, false, T, List, [], ◌∷◌, ◌++◌, Some, sym, subst, inl, inr, arith}
-use Rattle.std.proofs.lemmas.Bool.{cases_order}
 use Rattle.model.specs.declared.Event.{Event}
 use Rattle.model.specs.declared.Event.TheVariants.{Spawn, End, Open, Close, Read, Write}
 use Rattle.model.specs.declared.Race.{Race}
@@ -11,40 +11,33 @@ use Rattle.model.specs.Cells.{CellKind, reads, writes, accesses, conflicts}
 use Rattle.model.specs.Rules.{Limits}
 use Rattle.model.specs.Legal.{ahead, part_ahead, Legal, Settled}
 use Rattle.model.specs.Laws.{Clean, RacedBy}
-use Rattle.model.proofs.Shelf.Tests.{or_l, or_r, or_of, some_or_of, some_or_in, same-T, same_sym}
+use Rattle.model.proofs.Shelf.Tests.{or_l, some_or_of, some_or_in, same_sym}
 use Rattle.model.proofs.Shelf.Lists.{keep_in, keep_of, first_of_mem}
 use Rattle.model.proofs.Shelf.Places.{at_new, at_lt, at_grow}
 use Rattle.model.proofs.Shelf.Befores.{before_of}
-use Rattle.model.proofs.Orderings.Legals.{legal_apart, legal_asym, legal_irrefl}
+use Rattle.model.proofs.Orderings.Legals.{legal_apart, legal_asym}
 use Rattle.model.proofs.Orderings.Races.{Clash, clash_beside, raced_clash, sides}
 use Rattle.model.proofs.Orderings.Follows.{part_mem, mem_part, part_ahead_grow, first_top, Top, same_first, swapped}
 
 module _ {C : Type 0} (k : CellKind C) where
   pub access_write : (c : C) (d e : Event C) → T (accesses k c d) → T (writes k c e) → T (conflicts k d e)
   access_write c d (Spawn t u) s r = r
-  access_write c d (End t) s r = r
-  access_write c d (Open t) s r = r
-  access_write c d (Close t) s r = r
-  access_write c d (Read t b) s r = elim r [ ]
-  access_write c d (Write t b) s r = subst (λ (x : C). T (accesses k x d)) (k.same_is c b r) s
+  access_write c d e s r = grind arith
 
   pub conflicts_sym : (d e : Event C) → T (conflicts k d e) → T (conflicts k e d)
-  conflicts_sym d (Spawn t u) y = absurd y
-  conflicts_sym d (End t) y = absurd y
-  conflicts_sym d (Open t) y = absurd y
-  conflicts_sym d (Close t) y = absurd y
   conflicts_sym (Spawn t u) (Read v c) y = absurd y
   conflicts_sym (End t) (Read v c) y = absurd y
   conflicts_sym (Open t) (Read v c) y = absurd y
   conflicts_sym (Close t) (Read v c) y = absurd y
   conflicts_sym (Read t b) (Read v c) y = absurd y
-  conflicts_sym (Write t b) (Read v c) y = or_l (k.same b c) false (same-T (same_sym k c b) y)
+  conflicts_sym (Write t b) (Read v c) y = grind arith
   conflicts_sym (Spawn t u) (Write v c) y = absurd y
   conflicts_sym (End t) (Write v c) y = absurd y
   conflicts_sym (Open t) (Write v c) y = absurd y
   conflicts_sym (Close t) (Write v c) y = absurd y
-  conflicts_sym (Read t b) (Write v c) y = elim (or_of (k.same c b) false y) [ inl z ↦ same-T (same_sym k c b) z | inr z ↦ absurd z ]
-  conflicts_sym (Write t b) (Write v c) y = same-T (same_sym k c b) y
+  conflicts_sym (Read t b) (Write v c) y = grind arith
+  conflicts_sym (Write t b) (Write v c) y = subst T (same_sym k c b) y
+  conflicts_sym d e y = absurd y
 
   pub write_access : (c : C) (d e : Event C) → T (writes k c d) → T (accesses k c e) → T (conflicts k d e)
   write_access c d e s r = conflicts_sym e d (access_write c e d r s)
@@ -59,21 +52,10 @@ module _ {C : Type 0} (k : CellKind C) where
 
   module _ (h : Past C) (ordered : Ordered h) (o : List ℕ) (legal : Legal h o) where
     write_ahead : (i j : ℕ) (c : C) (e : Event C) → at h i ≡ Some e → T (accesses k c e) → T (writes_at h c j) → j < i → T (ahead o j i)
-    write_ahead i j c e q a w l =
-        let s = some_or_of (writes k c) (at h j) w in
-        legal.keeps j i (before_of h j i (ordered j i s.0 e l s.1 q (write_access c s.0 e s.2 a)))
+    write_ahead i j c e q a w l = grind (arith, nat_tests, before_of, ordered, write_access)
 
     write_below : (i j : ℕ) (c : C) (e : Event C) → at h i ≡ Some e → T (accesses k c e) → T (writes_at h c j) → T (ahead o j i) → j < i
-    write_below i j c e q a w t =
-        let s = some_or_of (writes k c) (at h j) w in
-        elim (cases_order i j) [
-          | inl g ↦ absurd (legal_irrefl h o legal j (subst (λ (x : ℕ). T (ahead o j x)) g t))
-          | inr (inl g) ↦
-              absurd
-              (legal_asym h o legal j i t
-              (legal.keeps i j (before_of h i j (ordered i j e s.0 g q s.1 (access_write c e s.0 a s.2)))))
-          | inr (inr g) ↦ g
-        ]
+    write_below i j c e q a w t = grind (arith, nat_tests, legal_asym, before_of, ordered, access_write)
 
     -- the writes that an access has ahead of it are those below it, and the first is the largest
     writes_top : (i : ℕ) (c : C) → Top (keep (writes_at h c) (part_ahead o i))
@@ -84,18 +66,13 @@ module _ {C : Type 0} (k : CellKind C) where
         elim (first_top (writes_at h c) (part_ahead o i) x y f a.0 a.1) [
           | inl g ↦ omega arith
           | inr g ↦
-              (let access = or_r (reads k c s.0) (writes k c s.0) s.2 in
-              let r = write_below x y c s.0 s.1 access a.1 (part_ahead_grow o i y x g) in
-              omega arith)
+              grind (arith, nat_tests, write_below, part_ahead_grow)
         ]
 
   ordered_same : (h : Past C) → Ordered h → (i : ℕ) (c : C) (e : Event C) → at h i ≡ Some e → T (accesses k c e)
       → (o p : List ℕ) → Legal h o → Legal h p → (j : ℕ)
       → T (mem j (keep (writes_at h c) (part_ahead o i))) → T (mem j (keep (writes_at h c) (part_ahead p i)))
-  ordered_same h ordered i c e q a o p lo lp j m =
-      let r = keep_of (writes_at h c) (part_ahead o i) j m in
-      let b = write_below h ordered o lo i j c e q a r.1 (mem_part o i j r.0) in
-      keep_in (writes_at h c) (part_ahead p i) j (part_mem p i j (write_ahead h ordered p lp i j c e q a r.1 b)) r.1
+  ordered_same h ordered i c e q a o p lo lp j m = grind (arith, nat_tests, keep_of, write_below, ordered, mem_part, keep_in, part_mem, write_ahead)
 
   ordered_settled : (h : Past C) → Ordered h → Settled k h
   ordered_settled h ordered i c e q a o p lo lp =

@@ -1,7 +1,9 @@
 -- The parts of a clean past, as a run needs them; and the marks of its cells, kept up to date.
-use Rattle.std.proofs.Common.{◌≡◌, ℕ, ◌<◌, T, leb, ◌∷◌, length, None, Option, sym, refl, ap, ◌∙◌, subst, inl, inr}
+use Rattle.std.proofs.Math.Bool.{or-false}
+use Rattle.std.proofs.lemmas.Bool.Decides.{nat_tests}
+use Rattle.std.proofs.Common.{◌≡◌, ℕ, ◌<◌, T, leb, ◌∷◌, length, None, Option, sym, refl, ap, ◌∙◌, subst, inl, inr, arith}
 use Rattle.model.specs.declared.Event.{Event}
-use Rattle.model.specs.declared.Event.TheVariants.{Spawn, End, Open, Close, Read, Write}
+use Rattle.model.specs.declared.Event.TheVariants.{Read, Write}
 use Rattle.model.specs.declared.Race.{Race}
 use Rattle.model.specs.Past.{Past, actor}
 use Rattle.model.specs.Cells.{CellKind}
@@ -10,10 +12,9 @@ use Rattle.model.specs.Laws.{Clean}
 use Rattle.model.specs.Orders.{Order}
 use Rattle.model.specs.Link.{order_of, step_now}
 use Rattle.model.specs.Parts.{history_of, history_with, after_read, after_write, ByParts, JudgedByParts, MarksKept}
-use Rattle.model.proofs.Shelf.Tests.{tried, cond_yes, cond_no, or_none}
+use Rattle.model.proofs.Shelf.Tests.{tried, cond_no}
 use Rattle.model.proofs.Orderings.Races.{passed}
 use Rattle.model.proofs.Readers.Sound.{Sound, clean_sound, taken_good}
-use Rattle.model.proofs.Reorderings.Facts.{leb_no}
 use Rattle.model.proofs.Parting.Judged.{judged_is}
 use Rattle.model.proofs.Parting.Held.{number_held}
 use Rattle.model.proofs.Parting.Moved.{parts_stepped}
@@ -23,7 +24,7 @@ use Rattle.model.proofs.Parting.Marks.{step_now_cur, history_other, read_history
 module _ {C : Type 0} (k : CellKind C) (l : Limits) where
   -- a taken event, with a race or without, finds room for its count
   counts : (h : Past C) (e : Event C) (r : Option (Race C)) → judge k l h e ≡ taken r → length h < l.events
-  counts h e r q = leb_no l.events (length h) (passed (leb l.events (length h)) 10 _ r q).0
+  counts h e r q = let f = (passed (leb l.events (length h)) 10 _ r q).0 in grind arith
 
   by_parts : (h : Past C) → Clean k l h → ByParts k l h
   by_parts h c =
@@ -52,28 +53,23 @@ module _ {C : Type 0} (k : CellKind C) (l : Limits) where
         ∙ ap (λ x. after_read m x (length h) (history_of k h c)) (sym (step_now_cur k l.steps h t)))
 
     write_here : (t : ℕ) (c d : C) → c ≡ d → history_of k (Write t d ∷ h) c ≡ after_write (step_now h t) (length h)
-    write_here t c d p =
-        subst (λ x. history_of k (Write t x ∷ h) c ≡ after_write (step_now h t) (length h)) p
-        (write_history k l.steps h t c ∙ ap (λ x. after_write x (length h)) (sym (step_now_cur k l.steps h t)))
+    write_here t c d p = grind (arith, nat_tests, write_history, step_now_cur)
 
     kept : (e : Event C) (c : C) → Sound k (e ∷ h)
         → history_of k (e ∷ h) c ≡ history_with k m (step_now h (actor e)) (length h) e c (history_of k h c)
-    kept (Spawn t u) c s = history_other k l.steps h (Spawn t u) c s (λ z. z)
-    kept (End t) c s = history_other k l.steps h (End t) c s (λ z. z)
-    kept (Open t) c s = history_other k l.steps h (Open t) c s (λ z. z)
-    kept (Close t) c s = history_other k l.steps h (Close t) c s (λ z. z)
     kept (Read t d) c s =
         elim (tried (k.same c d)) [
-          | inl y ↦ read_here t c d (k.same_is c d y) s ∙ sym (cond_yes (k.same c d) _ _ y)
+          | inl y ↦ grind (arith, read_here)
           | inr n ↦
-              history_other k l.steps h (Read t d) c s (λ z. n (subst T (or_none (k.same c d)) z))
+              history_other k l.steps h (Read t d) c s (λ z. n (subst T (or-false (k.same c d)) z))
               ∙ sym (cond_no (k.same c d) _ _ n)
         ]
     kept (Write t d) c s =
         elim (tried (k.same c d)) [
-          | inl y ↦ write_here t c d (k.same_is c d y) ∙ sym (cond_yes (k.same c d) _ _ y)
+          | inl y ↦ grind (arith, write_here)
           | inr n ↦ history_other k l.steps h (Write t d) c s n ∙ sym (cond_no (k.same c d) _ _ n)
         ]
+    kept e c s = history_other k l.steps h e c s (λ z. z)
 
   pub marks_kept : MarksKept k l
   marks_kept h e q p c = kept h e c (taken_good k l h e None p, clean_sound k l h q)

@@ -1,20 +1,19 @@
 -- What a table of histories says of a cell, in the words of the rules.
-use Rattle.std.proofs.Common.{◌≡◌, ℕ, Bool, true, false, cond, not, ◌&&◌, T, leb, ◌∷◌, length, Some, None, Option, sym, refl, ap, ◌∙◌, inl, inr}
+use Rattle.std.proofs.Common.{◌≡◌, ℕ, T, ◌∷◌, length, Some, None, Option, refl, ap, ◌∙◌, arith}
 use Rattle.model.specs.declared.Event.{Event}
 use Rattle.model.specs.declared.Event.TheVariants.{Read, Write}
 use Rattle.model.specs.declared.RaceKind.{RaceKind}
 use Rattle.model.specs.declared.RaceKind.TheVariants.{WriteRead, WriteWrite, ReadWrite}
 use Rattle.model.specs.declared.Race.{Race}
 use Rattle.model.specs.declared.History.{History}
-use Rattle.model.specs.Lists.{some_or}
 use Rattle.model.specs.Past.{Past, at, actor}
 use Rattle.model.specs.Before.{before}
-use Rattle.model.specs.Cells.{CellKind, reads, writes, accesses, last_write, left_read, right_read, cell_held, cells_held, is_access}
+use Rattle.model.specs.Cells.{CellKind, reads, writes, accesses, last_write, left_read, right_read, cell_held, is_access}
 use Rattle.model.specs.Rules.{Limits, race_with, race_of}
 use Rattle.model.specs.Orders.{Order}
 use Rattle.model.specs.Link.{order_of, number, step_at}
-use Rattle.model.specs.Parts.{blank, parts_of, mark_at, history_of, history_in, in_order, race_on, read_race, write_race, no_room}
-use Rattle.model.proofs.Shelf.Tests.{or_l, or_r, tried, T-ext, cond_yes, cond_no}
+use Rattle.model.specs.Parts.{blank, parts_of, mark_at, history_of, history_in, in_order, race_on, read_race, write_race}
+use Rattle.model.proofs.Shelf.Tests.{T-ext}
 use Rattle.model.proofs.Shelf.Places.{at_lt, at_any}
 use Rattle.model.proofs.Readers.Sound.{Known, Sound}
 use Rattle.model.proofs.Readers.Labels.{now, current_is, is_upto}
@@ -46,10 +45,10 @@ module _ {C : Type 0} (k : CellKind C) where
   none_held h c (Some i) f n = let (d, q, t) = f i refl in absurd (n (at_any (accesses k c) h i d q t))
 
   by_write : (h : Past C) (c : C) (i : ℕ) → Stands k (writes k) h c i → Stands k (accesses k) h c i
-  by_write h c i (d, q, t) = (d, q, or_r (reads k c d) (writes k c d) t)
+  by_write h c i (d, q, t) = grind arith
 
   by_read : (h : Past C) (c : C) (i : ℕ) → Stands k (reads k) h c i → Stands k (accesses k) h c i
-  by_read h c i (d, q, t) = (d, q, or_l (reads k c d) (writes k c d) t)
+  by_read h c i (d, q, t) = grind arith
 
   blank_is : (h : Past C) (c : C) → (T (cell_held k h c) → ⊥) → history_of k h c ≡ blank
   blank_is h c n =
@@ -59,18 +58,7 @@ module _ {C : Type 0} (k : CellKind C) where
       (ap (mark_at h) (none_held h c (right_read k h c) (λ i q. by_read h c i (right_read_of k h c i q)) n))
 
   pub history_is : (l : Limits) (h : Past C) (c : C) → history_in (parts_of k l h).cells c ≡ history_of k h c
-  history_is l h c = elim (tried (cell_held k h c)) [
-    | inl q ↦ ap (some_or (λ (x : History). x) blank) (cond_yes (cell_held k h c) (Some (history_of k h c)) None q)
-    | inr n ↦ ap (some_or (λ (x : History). x) blank) (cond_no (cell_held k h c) (Some (history_of k h c)) None n) ∙ sym (blank_is h c n)
-  ]
-
-  pub room_is : (l : Limits) (h : Past C) (c : C)
-      → no_room (parts_of k l h).cells c ≡ (not (cell_held k h c) && leb l.cells (cells_held k h))
-  room_is l h c = go (cell_held k h c) (leb l.cells (cells_held k h)) (history_of k h c)
-    where
-      go : (b full : Bool) (x : History) → some_or (λ (v : History). false) full (cond b (Some x) None) ≡ (not b && full)
-      go true full x = refl
-      go false full x = refl
+  history_is l h c = grind (arith, blank_is)
 
   -- whether a mark is up to the next access, by steps
   module _ (lim : ℕ) (h : Past C) (e : Event C) (s : Sound k h) (q : Known k h (actor e)) (a : T (is_access e)) where
@@ -92,9 +80,7 @@ module _ {C : Type 0} (k : CellKind C) where
     race_is : (kind : RaceKind) (c : C) (o : Option ℕ) (x y : Option (Race C)) → ((i : ℕ) → o ≡ Some i → Accessed h i) → x ≡ y
         → race_on kind mo cur (length h) c (mark_at h o) x ≡ race_with kind h e c o y
     race_is kind c None x y f p = p
-    race_is kind c (Some i) x y f p =
-        let b = in_order_is i (f i refl) in
-        λ j. cond (b j) (p j) (Some (record { kind = kind; cell = c; first = i; second = length h }))
+    race_is kind c (Some i) x y f p = grind (arith, in_order_is)
 
   pub read_race_is : (l : Limits) (h : Past C) (t : ℕ) (c : C) → Sound k h → Known k h t
       → read_race (parts_of k l h) (number h t) c ≡ race_of k h (Read t c)

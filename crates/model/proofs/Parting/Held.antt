@@ -1,7 +1,8 @@
 -- What the parts hold: steps and places in their histories, numbers in their names, and how many tasks and finishes there are.
+use Rattle.std.proofs.lemmas.Option.{none-some}
+use Rattle.std.proofs.lemmas.Option.{same_Some}
 use Rattle.std.proofs.Common.{◌≡◌, ℕ, ◌+◌, ◌<◌, ◌≤◌, Bool, true, false, cond, ◌||◌, eqb, List, [], ◌∷◌, length, Some, None, Option, sym, refl, ap, ◌∙◌, subst, inl, inr, arith}
-use Rattle.model.specs.declared.Event.TheVariants.{Spawn, End, Open, Close, Read, Write}
-use Rattle.model.specs.declared.Mark.{Mark}
+use Rattle.model.specs.declared.Event.TheVariants.{Spawn}
 use Rattle.model.specs.declared.History.{History}
 use Rattle.model.specs.Lists.{some_or}
 use Rattle.model.specs.Past.{Past, child, made, spawned_tasks}
@@ -10,7 +11,7 @@ use Rattle.model.specs.Rules.{Limits}
 use Rattle.model.specs.Laws.{Clean}
 use Rattle.model.specs.Link.{order_of, number, spawns}
 use Rattle.model.specs.Parts.{parts_of, task_number, mark_at, history_of, MarkHeld, HistoryHeld}
-use Rattle.model.proofs.Shelf.Tests.{tried, some_inj, none_some}
+use Rattle.model.proofs.Shelf.Tests.{tried}
 use Rattle.model.proofs.Shelf.Places.{at_lt}
 use Rattle.model.proofs.Readers.Sound.{Sound, clean_sound}
 use Rattle.model.proofs.Readers.Keeper.{number_le, tasks_is}
@@ -25,11 +26,11 @@ one_more_or_none n xs (Some u) p = omega arith
 module _ {C : Type 0} (k : CellKind C) where
   mark_held : (lim : ℕ) (h : Past C) → Sound k h → (o : Option ℕ) → ((i : ℕ) → o ≡ Some i → Accessed k h i)
       → MarkHeld (order_of lim h).steps (length h) (mark_at h o)
-  mark_held lim h s None f w q = none_some q
+  mark_held lim h s None f w q = cc
   mark_held lim h s (Some i) f w q =
       let r = f i refl in
       let b = at_lt h i r.0 r.1 in
-      subst (λ (x : Mark). (x.step < (order_of lim h).steps) × (x.place < length h)) (some_inj q) (step_held k lim h s i b, b)
+      grind (arith, step_held)
 
   pub history_held : (lim : ℕ) (h : Past C) → Sound k h → (c : C) → HistoryHeld (order_of lim h).steps (length h) (history_of k h c)
   history_held lim h s c = record {
@@ -39,8 +40,8 @@ module _ {C : Type 0} (k : CellKind C) where
   }
 
   found : {V : Type 0} (b : Bool) (v x : V) → cond b (Some v) None ≡ Some x → v ≡ x
-  found true v x q = some_inj q
-  found false v x q = none_some q
+  found true v x q = cc
+  found false v x q = cc
 
   -- what is found of a cell is within the order and the count
   pub found_held : (l : Limits) (h : Past C) → Clean k l h → (c : C) (x : History) → (parts_of k l h).cells.find c ≡ Some x
@@ -55,12 +56,12 @@ module _ {C : Type 0} (k : CellKind C) where
   number_held l h c t n q =
       let s = clean_sound k l h c in
       elim (tried (eqb t 0 || made h t)) [
-        | inl y ↦ (let e : n ≡ number h t = some_inj (sym q ∙ task_known k l h s t y) in (
+        | inl y ↦ (let e : n ≡ number h t = same_Some _ _ (sym q ∙ task_known k l h s t y) in (
           e,
           (let a = number_le k l.steps h t in let b = tasks_is k l.steps h in omega arith),
           subst (λ x. ((order_of l.steps h).task x).current < (order_of l.steps h).steps) (sym e) (cur_held k l.steps h s t y),
         ))
-        | inr z ↦ none_some (sym (task_unknown k l h t z) ∙ q)
+        | inr z ↦ absurd (none-some _ (sym (task_unknown k l h t z) ∙ q))
       ]
 
   spawns_count : (h : Past C) → spawns h ≡ length (spawned_tasks h)
@@ -74,11 +75,7 @@ module _ {C : Type 0} (k : CellKind C) where
   finishes_held : (lim : ℕ) (h : Past C) → (order_of lim h).finishes ≤ (order_of lim h).steps
   finishes_held lim [] = omega arith
   finishes_held lim (Spawn a u ∷ h) = let p = finishes_held lim h in omega arith
-  finishes_held lim (End a ∷ h) = finishes_held lim h
-  finishes_held lim (Open a ∷ h) = let p = finishes_held lim h in omega arith
-  finishes_held lim (Close a ∷ h) = let p = finishes_held lim h in omega arith
-  finishes_held lim (Read a c ∷ h) = finishes_held lim h
-  finishes_held lim (Write a c ∷ h) = finishes_held lim h
+  finishes_held lim (e ∷ h) = grind (arith, finishes_held lim h)
 
   pub finishes_within : (l : Limits) (h : Past C) → (parts_of k l h).order.finishes ≤ (parts_of k l h).order.steps
   finishes_within l h = finishes_held l.steps h

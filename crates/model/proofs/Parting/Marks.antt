@@ -1,4 +1,6 @@
 -- How an event changes the history of a cell.
+use Rattle.std.proofs.Math.Facts.{yes_eqb}
+use Rattle.std.proofs.lemmas.Bool.Decides.{nat_tests}
 use Rattle.std.proofs.Common.{◌≡◌, ℕ, ◌<◌, Bool, true, false, cond, ◌||◌, T, eqb, ◌⊎◌, ◌∷◌, length, Some, None, Option, sym, refl, ap, ◌∙◌, inl, inr, arith}
 use Rattle.model.specs.declared.Event.{Event}
 use Rattle.model.specs.declared.Event.TheVariants.{Read, Write}
@@ -8,12 +10,12 @@ use Rattle.model.specs.Cells.{CellKind, reads, writes, accesses, last_write, lef
 use Rattle.model.specs.Orders.{Order, at_or_before}
 use Rattle.model.specs.Link.{order_of, number, step_now, step_at}
 use Rattle.model.specs.Parts.{mark_at, history_of, new_left, new_right, after_read, after_write}
-use Rattle.model.proofs.Shelf.Tests.{or_l, or_r, eqb_in, cond_yes, cond_no}
+use Rattle.model.proofs.Shelf.Tests.{or_l, or_r, cond_yes, cond_no}
 use Rattle.model.proofs.Shelf.Places.{at_lt}
 use Rattle.model.proofs.Readers.Sound.{Known, Sound}
 use Rattle.model.proofs.Readers.Labels.{current_is, now_lt}
 use Rattle.model.proofs.Readers.Steps.{law}
-use Rattle.model.proofs.Readers.Access.{limit_free, step_at_top, step_at_old}
+use Rattle.model.proofs.Readers.Access.{limit_free}
 use Rattle.model.proofs.Readers.Next.{step_done_on, next_left, next_right, left_other, right_other}
 use Rattle.model.proofs.Readers.Next.{left_after_read, right_after_read, left_after_write, right_after_write}
 use Rattle.model.proofs.Trees.Reached.{reached_laws}
@@ -50,13 +52,11 @@ module _ {C : Type 0} (k : CellKind C) (lim : ℕ) where
   mark_old : (h : Past C) (e : Event C) (o : Option ℕ) → ((i : ℕ) → o ≡ Some i → Accessed k h i) → mark_at (e ∷ h) o ≡ mark_at h o
   mark_old h e None f = refl
   mark_old h e (Some i) f =
-      let r = f i refl in ap Some (mark_step (step_at (e ∷ h) i) (step_at h i) i (step_at_old k lim h e i (at_lt h i r.0 r.1)))
+      let r = f i refl in grind (arith, nat_tests, at_lt)
 
   -- the mark of the event itself
   mark_top : (h : Past C) (e : Event C) → mark_at (e ∷ h) (Some (length h)) ≡ Some (record { step = cur h (actor e); place = length h })
-  mark_top h e =
-      let step = step_at_top k lim h e ∙ step_now_cur h (actor e) in
-      ap Some (mark_step (step_at (e ∷ h) (length h)) (cur h (actor e)) (length h) step)
+  mark_top h e = grind (arith, nat_tests, step_now_cur, mark_step)
 
   pub history_other : (h : Past C) (e : Event C) (j : C)
       → Sound k (e ∷ h) → (T (accesses k j e) → ⊥) → history_of k (e ∷ h) j ≡ history_of k h j
@@ -80,7 +80,7 @@ module _ {C : Type 0} (k : CellKind C) (lim : ℕ) where
 
     some_way : (a b : ℕ) → a < (mo h).steps → b < (mo h).steps
         → (T (at_or_before (mo h) b a) → ⊥) → T ((mo h).earlier a b) ⊎ T ((mo h).earlier b a)
-    some_way a b p q n = (law k lim reached_laws h s).earlier_total a b p q (λ z. n (or_l (eqb a b) ((mo h).before a b) (eqb_in a b z)))
+    some_way a b p q n = (law k lim reached_laws h s).earlier_total a b p q (λ z. n (or_l (eqb a b) ((mo h).before a b) (yes_eqb z)))
 
   swap : {A B : Type 0} → A ⊎ B → B ⊎ A
   swap (inl a) = inr a
@@ -111,18 +111,11 @@ module _ {C : Type 0} (k : CellKind C) (lim : ℕ) where
     go : (a : ℕ) (w v : ℕ → Bool) → ((i : ℕ) → Some a ≡ Some i → Accessed k h i) → (T (w here) → T (v here) → ⊥)
         → ((T (at_or_before m here (step_at h a)) → ⊥) → T (w here) ⊎ T (v here))
         → mark_at (Read t c ∷ h) (stood a w (step_now h t)) ≡ Some (cond (at_or_before m here (step_at h a) || v here) new (old a))
-    go a w v f p q =
-        let b = at_or_before m here (step_at h a) in
-        ap (λ y. mark_at (Read t c ∷ h) (stood a w y)) (step_now_cur h t)
-        ∙ (ap (mark_at (Read t c ∷ h)) (pick b (w here) (v here) (Some (length h)) (Some a) p q)
-        ∙ pushed (mark_at (Read t c ∷ h)) (b || v here) (Some (length h)) (Some a) new (old a)
-        (mark_top h (Read t c)) (mark_old h (Read t c) (Some a) f))
+    go a w v f p q = grind (arith, nat_tests, step_now_cur, pick, pushed, new, old, mark_top, mark_old)
 
     ways : (a : ℕ) → ((i : ℕ) → Some a ≡ Some i → Accessed k h i) → (T (at_or_before m here (step_at h a)) → ⊥)
         → T (m.earlier (step_at h a) here) ⊎ T (m.earlier here (step_at h a))
-    ways a f n =
-        let r = f a refl in
-        some_way h s.1 (step_at h a) here (step_held h s.1 a (at_lt h a r.0 r.1)) (cur_held h s.1 t s.0.is_known) n
+    ways a f n = grind (arith, nat_tests, some_way, step_held, at_lt, cur_held)
 
     left_go : (o : Option ℕ) → ((i : ℕ) → o ≡ Some i → Accessed k h i)
         → mark_at (Read t c ∷ h) (next_left lim h t o) ≡ Some (new_left m here (length h) (mark_at h o))

@@ -1,18 +1,18 @@
 -- How a taken event moves the parts.
-use Rattle.std.proofs.Common.{◌≡◌, ◌∷◌, length, Some, None, Option, sym, refl, ap, ◌∙◌}
+use Rattle.std.proofs.Math.Bool.{or-false}
+use Rattle.std.proofs.lemmas.Bool.Decides.{nat_tests}
+use Rattle.std.proofs.Common.{◌≡◌, ◌∷◌, length, Some, None, Option, sym, refl, ap, ◌∙◌, arith, add-one}
 use Rattle.model.specs.declared.Event.{Event}
-use Rattle.model.specs.declared.Event.TheVariants.{Spawn, End, Open, Close, Read, Write}
+use Rattle.model.specs.declared.Event.TheVariants.{Spawn, Read, Write}
 use Rattle.model.specs.declared.Race.{Race}
-use Rattle.model.specs.Lists.{some_or}
 use Rattle.model.specs.Past.{Past, actor}
 use Rattle.model.specs.Cells.{CellKind}
 use Rattle.model.specs.Rules.{Limits, taken, judge}
 use Rattle.model.specs.Laws.{Clean}
 use Rattle.model.specs.Link.{order_of, number}
 use Rattle.model.specs.Parts.{parts_of, task_number, history_in, after_read, after_write, moved_parts, stepped}
-use Rattle.model.proofs.Shelf.Tests.{or_none}
 use Rattle.model.proofs.Readers.Sound.{Sound, taken_good, clean_sound}
-use Rattle.model.proofs.Parting.Words.{parts_ext, one_more}
+use Rattle.model.proofs.Parting.Words.{parts_ext}
 use Rattle.model.proofs.Parting.Tasks.{task_known}
 use Rattle.model.proofs.Parting.Cells.{history_is}
 use Rattle.model.proofs.Parting.Marks.{read_history, write_history}
@@ -22,22 +22,20 @@ module _ {C : Type 0} (k : CellKind C) where
   parts_step : (l : Limits) (h : Past C) (e : Event C) → Sound k (e ∷ h)
       → parts_of k l (e ∷ h) ≡ moved_parts k (parts_of k l h) (number h (actor e)) e
   parts_step l h (Spawn t u) s =
-      parts_ext _ _ refl (still_cells k l h (Spawn t u) s refl (λ j z. z)) (spawn_names k l h t u s.0.extra) (one_more (length h))
-  parts_step l h (End t) s = parts_ext _ _ refl (still_cells k l h (End t) s refl (λ j z. z)) refl (one_more (length h))
-  parts_step l h (Open t) s = parts_ext _ _ refl (still_cells k l h (Open t) s refl (λ j z. z)) refl (one_more (length h))
-  parts_step l h (Close t) s = parts_ext _ _ refl (still_cells k l h (Close t) s refl (λ j z. z)) refl (one_more (length h))
+      parts_ext _ _ refl (still_cells k l h (Spawn t u) s refl (λ j z. z)) (spawn_names k l h t u s.0.extra) (sym (add-one (length h)))
   parts_step l h (Read t c) s =
       let m = order_of l.steps h in
       let new = after_read m (m.task (number h t)).current (length h) in
       let kept = read_history k l.steps h t c s ∙ ap new (sym (history_is k l h c)) in
       parts_ext _ _ refl
-      (moved_cells k l h (Read t c) c (new (history_in (parts_of k l h).cells c)) s refl (λ j. or_none (k.same j c)) kept)
-      refl (one_more (length h))
+      (moved_cells k l h (Read t c) c (new (history_in (parts_of k l h).cells c)) s refl (λ j. or-false (k.same j c)) kept)
+      refl (sym (add-one (length h)))
   parts_step l h (Write t c) s =
       let new = after_write ((order_of l.steps h).task (number h t)).current (length h) in
       parts_ext _ _ refl
       (moved_cells k l h (Write t c) c new s refl (λ j. refl) (write_history k l.steps h t c))
-      refl (one_more (length h))
+      refl (sym (add-one (length h)))
+  parts_step l h e s = parts_ext _ _ refl (still_cells k l h e s refl (λ j z. z)) refl (sym (add-one (length h)))
 
   -- a taken event, with a race or without, moves the parts as they say themselves
   parts_taken : (l : Limits) (h : Past C) (e : Event C) (r : Option (Race C)) → Clean k l h → judge k l h e ≡ taken r
@@ -51,6 +49,4 @@ module _ {C : Type 0} (k : CellKind C) where
 
   pub parts_stepped : (l : Limits) (h : Past C) (e : Event C) → Clean k l h → judge k l h e ≡ taken None
       → parts_of k l (e ∷ h) ≡ stepped k (parts_of k l h) e
-  parts_stepped l h e c q =
-      parts_taken l h e None c q
-      ∙ sym (ap (some_or (λ n. moved_parts k (parts_of k l h) n e) (parts_of k l h)) (actor_number l h e None c q))
+  parts_stepped l h e c q = grind (arith, nat_tests, parts_taken, actor_number)

@@ -1,18 +1,19 @@
 -- How an event changes the table of histories and the table of names.
-use Rattle.std.proofs.Common.{◌≡◌, ℕ, ◌+◌, Bool, true, false, cond, ◌||◌, T, eqb, ◌∷◌, length, Some, None, sym, refl, ap, ◌∙◌, inl, inr, zero-add, arith}
+use Rattle.std.proofs.lemmas.Bool.Decides.{nat_tests}
+use Rattle.std.proofs.Common.{◌≡◌, ℕ, ◌+◌, Bool, true, false, cond, ◌||◌, T, eqb, ◌∷◌, Some, None, sym, refl, ap, ◌∙◌, inl, inr, arith, subst}
 use Rattle.model.specs.declared.Event.{Event}
 use Rattle.model.specs.declared.Event.TheVariants.{Spawn}
 use Rattle.model.specs.declared.History.{History}
 use Rattle.model.specs.Lists.{some_or}
-use Rattle.model.specs.Past.{Past, made, spawned_tasks}
+use Rattle.model.specs.Past.{Past, made}
 use Rattle.model.specs.Cells.{CellKind, accesses, cell_of, cell_held, cells_held}
 use Rattle.model.specs.Rules.{Limits}
-use Rattle.model.specs.Link.{order_of, number, spawns}
+use Rattle.model.specs.Link.{order_of}
 use Rattle.model.specs.Parts.{parts_of, history_of, with_key}
-use Rattle.model.proofs.Shelf.Tests.{or_l, or_r, tried, is_false, same-T, cond_yes, cond_no, eqb_sym, same_sym}
+use Rattle.model.proofs.Shelf.Tests.{or_l, or_r, tried, is_false, cond_yes, cond_no, same_sym}
 use Rattle.model.proofs.Readers.Sound.{Known, Sound}
 use Rattle.model.proofs.Readers.Keeper.{tasks_is}
-use Rattle.model.proofs.Parting.Words.{keyed_ext, one_more}
+use Rattle.model.proofs.Parting.Words.{keyed_ext}
 use Rattle.model.proofs.Parting.Marks.{history_other}
 
 module _ {C : Type 0} (k : CellKind C) (l : Limits) where
@@ -24,17 +25,12 @@ module _ {C : Type 0} (k : CellKind C) (l : Limits) where
   -- a cell that the event does not touch
   found_still : (h : Past C) (e : Event C) (j : C) → Sound k (e ∷ h) → (T (accesses k j e) → ⊥)
       → (parts_of k l (e ∷ h)).cells.find j ≡ (parts_of k l h).cells.find j
-  found_still h e j s n =
-      ap (λ b. cond (b || cell_held k h j) (Some (history_of k (e ∷ h) j)) None) (is_false (accesses k j e) n)
-      ∙ ap (λ (x : History). cond (cell_held k h j) (Some x) None) (history_other k l.steps h e j s n)
+  found_still h e j s n = grind (arith, history_other)
 
   -- an event that touches no cell
   pub still_cells : (h : Past C) (e : Event C) → Sound k (e ∷ h) → cell_of e ≡ None → ((j : C) → T (accesses k j e) → ⊥)
       → (parts_of k l (e ∷ h)).cells ≡ (parts_of k l h).cells
-  still_cells h e s o a =
-      keyed_ext (parts_of k l (e ∷ h)).cells (parts_of k l h).cells refl
-      (ap (λ x. some_or (λ (c : C). cond (cell_held k h c) 0 1) 0 x + cells_held k h) o ∙ zero-add (cells_held k h))
-      (λ j. found_still h e j s (a j))
+  still_cells h e s o a = grind (arith, found_still)
 
   -- an access of c
   pub moved_cells : (h : Past C) (e : Event C) (c : C) (v : History)
@@ -45,12 +41,12 @@ module _ {C : Type 0} (k : CellKind C) (l : Limits) where
       (ap (λ x. some_or (λ (c : C). cond (cell_held k h c) 0 1) 0 x + cells_held k h) o
       ∙ counted (cell_held k h c) (cells_held k h) (history_of k h c))
       (λ j. elim (tried (k.same c j)) [
-        | inl y ↦ (let at_j : T (accesses k j e) = same-T (sym (a j)) (same-T (same_sym k c j) y) in
+        | inl y ↦ (let at_j : T (accesses k j e) = subst T (sym (a j)) (subst T (same_sym k c j) y) in
             cond_yes (accesses k j e || cell_held k h j) (Some (history_of k (e ∷ h) j)) None (or_l (accesses k j e) (cell_held k h j) at_j)
             ∙ (ap (λ x. Some (history_of k (e ∷ h) x)) (sym (k.same_is c j y))
             ∙ (ap Some p
             ∙ sym (cond_yes (k.same c j) (Some v) ((parts_of k l h).cells.find j) y))))
-        | inr n ↦ (let off : T (accesses k j e) → ⊥ = λ z. n (same-T (same_sym k j c) (same-T (a j) z)) in
+        | inr n ↦ (let off : T (accesses k j e) → ⊥ = λ z. n (subst T (same_sym k j c) (subst T (a j) z)) in
             found_still h e j s off ∙ sym (cond_no (k.same c j) (Some v) ((parts_of k l h).cells.find j) n))
       ])
 
@@ -59,12 +55,7 @@ module _ {C : Type 0} (k : CellKind C) (l : Limits) where
       → (parts_of k l (Spawn t u ∷ h)).names ≡ with_key eqb (parts_of k l h).names u (order_of l.steps h).tasks
   spawn_names h t u n =
       let new : made h u ≡ false = is_false (made h u) (λ z. n (or_r (eqb u 0) (made h u) z)) in
-      keyed_ext (parts_of k l (Spawn t u ∷ h)).names (with_key eqb (parts_of k l h).names u (order_of l.steps h).tasks) refl
-      (one_more (length (spawned_tasks h))
-      ∙ ap (λ b. length (spawned_tasks h) + some_or (λ (x : ℕ). 0) 1 (cond b (Some (number h u)) None)) (sym new))
-      (λ j. found (eqb j u) (made h j) (spawns h + 1) (number h j)
-      ∙ (ap (λ b. cond b (Some (spawns h + 1)) (cond (made h j) (Some (number h j)) None)) (eqb_sym j u)
-      ∙ ap (λ x. cond (eqb u j) (Some x) (cond (made h j) (Some (number h j)) None)) (sym (tasks_is k l.steps h))))
+      grind (arith, nat_tests, found, tasks_is)
     where
       found : (a b : Bool) (y x : ℕ) → cond (a || b) (Some (cond a y x)) None ≡ cond a (Some y) (cond b (Some x) None)
       found true b y x = refl

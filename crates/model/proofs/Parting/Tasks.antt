@@ -1,16 +1,16 @@
 -- What the keeper says of a task, in the words of the rules.
-use Rattle.std.proofs.Common.{◌≡◌, ℕ, ◌+◌, ◌<◌, Bool, true, false, cond, not, ◌||◌, T, eqb, ltb, List, [], ◌∷◌, ◌++◌, Some, None, sym, refl, ap, ◌∙◌, inl, inr, arith, eqb→eq}
-use Rattle.std.proofs.lemmas.Bool.{cases_eq}
-use Rattle.model.specs.Lists.{is_empty, head_or, some_or}
-use Rattle.model.specs.Past.{Past, makes, own, home, innermost, made, ended, lived_in}
+use Rattle.std.proofs.lemmas.Bool.Decides.{nat_tests}
+use Rattle.std.proofs.Common.{◌≡◌, ℕ, ◌+◌, ◌<◌, not, T, ltb, List, [], ◌∷◌, ◌++◌, Some, None, refl, ap, ◌∙◌, arith}
+use Rattle.model.specs.Lists.{is_empty, head_or}
+use Rattle.model.specs.Past.{Past, own, home, innermost, ended, lived_in}
 use Rattle.model.specs.Cells.{CellKind}
 use Rattle.model.specs.Rules.{Limits, steps_held}
 use Rattle.model.specs.Orders.{Order, gone, few, has_own, lived}
 use Rattle.model.specs.Link.{order_of, number}
 use Rattle.model.specs.Parts.{parts_of, task_number}
-use Rattle.model.proofs.Shelf.Tests.{or_l, or_r, or_of, tried, T-ext, cond_yes, cond_no, cond_eq, cond_ne, not_not}
+use Rattle.model.proofs.Shelf.Tests.{T-ext}
 use Rattle.model.proofs.Shelf.Lists.{any_below_of, any_below_in}
-use Rattle.model.proofs.Readers.Sound.{Known, HasEnded, Sound, stale}
+use Rattle.model.proofs.Readers.Sound.{Known, HasEnded, Sound}
 use Rattle.model.proofs.Readers.Keeper.{number_le, tasks_is}
 use Rattle.model.proofs.Readers.Finishes.{finish_number, own_numbers}
 use Rattle.model.proofs.Readers.Reach.{steps_is, task_running, task_finishes, head_is, lives_of}
@@ -21,29 +21,13 @@ module _ {C : Type 0} (k : CellKind C) where
   -- the first task is never made, so its number stays 0
   number_first : (h : Past C) → Sound k h → number h 0 ≡ 0
   number_first [] s = refl
-  number_first (e ∷ h) s = cond_no (makes 0 e) _ _ (stale k h e s.0 0 (or_l (eqb 0 0) (made h 0) tt)) ∙ number_first h s.1
+  number_first (e ∷ h) s = grind (arith, nat_tests, number_first h)
 
   pub task_known : (l : Limits) (h : Past C) → Sound k h → (t : ℕ) → Known k h t → task_number (parts_of k l h) t ≡ Some (number h t)
-  task_known l h s t q = elim (cases_eq t 0) [
-    | inl p ↦ cond_eq t 0 _ _ p ∙ ap Some (sym (ap (number h) p ∙ number_first h s))
-    | inr n ↦ cond_ne t 0 _ _ n ∙ elim (or_of (eqb t 0) (made h t) q) [
-      | inl z ↦ absurd (n (eqb→eq t 0 z))
-      | inr m ↦ cond_yes (made h t) _ _ m
-    ]
-  ]
+  task_known l h s t q = grind (arith, number_first)
 
   pub task_unknown : (l : Limits) (h : Past C) (t : ℕ) → (Known k h t → ⊥) → task_number (parts_of k l h) t ≡ None
-  task_unknown l h t n =
-      cond_no (eqb t 0) _ _ (λ z. n (or_l (eqb t 0) (made h t) z)) ∙ cond_no (made h t) _ _ (λ z. n (or_r (eqb t 0) (made h t) z))
-
-  -- whether a name is taken
-  pub taken_name : (l : Limits) (h : Past C) (u : ℕ) → some_or (λ x. true) false (task_number (parts_of k l h) u) ≡ (eqb u 0 || made h u)
-  taken_name l h u = go (eqb u 0) (made h u) (number h u)
-    where
-      go : (a b : Bool) (n : ℕ) → some_or (λ x. true) false (cond a (Some 0) (cond b (Some n) None)) ≡ (a || b)
-      go true b n = refl
-      go false true n = refl
-      go false false n = refl
+  task_unknown l h t n = grind arith
 
   module _ (lim : ℕ) where
     -- the order that the keeper means
@@ -57,7 +41,7 @@ module _ {C : Type 0} (k : CellKind C) where
     few_is h n = ap (λ x. ltb x ((mo h).steps + n)) (limit_is h) ∙ ap (λ x. ltb lim (x + n)) (steps_is k lim h)
 
     pub gone_is : (h : Past C) → Sound k h → (t : ℕ) → Known k h t → gone (mo h) (number h t) ≡ ended h t
-    gone_is h s t q = ap not (task_running k lim h s t q) ∙ not_not (ended h t)
+    gone_is h s t q = grind (arith, task_running)
 
     has_own_fins : (h : Past C) (t x : ℕ) (l : List ℕ) → has_own (own_numbers k lim h t l ++ (x ∷ [])) ≡ not (is_empty l)
     has_own_fins h t x [] = refl
@@ -69,11 +53,7 @@ module _ {C : Type 0} (k : CellKind C) where
     has_own_is h s t q n = ap (has_own) (task_finishes k lim h s t q n) ∙ has_own_fins h t (finish_number k lim h (home h t)) (own h t)
 
     lives_held : (h : Past C) → Sound k h → (f n : ℕ) → T ((mo h).lives f n) → n < (mo h).tasks
-    lives_held h s f n q =
-        let r = lives_of k lim h s f n q in
-        let a = number_le k lim h r.0 in
-        let b = tasks_is k lim h in
-        let e = r.3 in omega arith
+    lives_held h s f n q = grind (arith, nat_tests, lives_of, number_le, tasks_is)
 
     pub lived_is : (h : Past C) → Sound k h → (t : ℕ) → Known k h t → (HasEnded k h t → ⊥) → (T (is_empty (own h t)) → ⊥)
         → lived (mo h) (head_or ((mo h).task (number h t)).finishes 0) ≡ lived_in h (innermost h t)
@@ -83,10 +63,7 @@ module _ {C : Type 0} (k : CellKind C) where
         f = finish_number k lim h (innermost h t)
 
         to : T (lived (mo h) f) → T (lived_in h (innermost h t))
-        to z = elim (tried (lived_in h (innermost h t))) [
-          | inl y ↦ y
-          | inr nl ↦ (let r = any_below_of ((mo h).lives f) (mo h).tasks z in absurd (not_lived k lim h s t o nl r.0 r.2))
-        ]
+        to z = grind (arith, nat_tests, any_below_of, not_lived)
 
         fro : T (lived_in h (innermost h t)) → T (lived (mo h) f)
         fro z =

@@ -1,15 +1,8 @@
--- Answers that begin with the same test, and tables, histories and parts that are equal.
-use Rattle.std.proofs.Common.{◌≡◌, ℕ, suc, ◌+◌, Bool, true, false, cond, T, ap, ◌∙◌, arith}
+-- Tables, histories and parts that are equal in each part.
+use Rattle.std.proofs.Common.{◌≡◌, ℕ}
 use Rattle.model.specs.declared.Mark.{Mark}
 use Rattle.model.specs.declared.History.{History}
-use Rattle.model.specs.Rules.{Answer, refused}
 use Rattle.model.specs.Parts.{Keyed, Parts}
-
--- two answers that begin with the same test
-pub stop_same : {C : Type 0} (a b : Bool) (n : ℕ) (x y : Answer C)
-    → a ≡ b → ((T b → ⊥) → x ≡ y) → cond a (refused n) x ≡ cond b (refused n) y
-stop_same a true n x y e f = ap (λ v. cond v (refused n) x) e
-stop_same a false n x y e f = ap (λ v. cond v (refused n) x) e ∙ f (λ z. z)
 
 pub keyed_ext : {K V : Type 0} (s t : Keyed K V) → s.limit ≡ t.limit → s.count ≡ t.count → ((j : K) → s.find j ≡ t.find j) → s ≡ t
 keyed_ext s t a b f = λ i. record { limit = a i; count = b i; find = λ j. f j i }
@@ -22,6 +15,3 @@ parts_ext p q a b c d = λ i. record { order = a i; cells = b i; names = c i; co
 
 pub mark_step : (a b n : ℕ) → a ≡ b → ◌≡◌ {A = Mark} (record { step = a; place = n }) (record { step = b; place = n })
 mark_step a b n e = λ i. record { step = e i; place = n }
-
-pub one_more : (n : ℕ) → suc n ≡ n + 1
-one_more n = omega arith

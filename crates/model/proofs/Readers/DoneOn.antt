@@ -1,12 +1,11 @@
 -- The step that the event at a place was done on, and the step on which a task goes on after a spawn.
-use Rattle.std.proofs.Common.{◌≡◌, ℕ, ◌+◌, ◌<◌, cond, eqb, [], ◌∷◌, length, inl, inr, arith}
-use Rattle.std.proofs.lemmas.Bool.{cases_eq}
+use Rattle.std.proofs.lemmas.Bool.Decides.{nat_tests}
+use Rattle.std.proofs.Common.{◌≡◌, ℕ, ◌+◌, ◌<◌, cond, eqb, [], ◌∷◌, length, arith}
 use Rattle.model.specs.declared.Event.{Event}
 use Rattle.model.specs.Past.{Past, actor}
 use Rattle.model.specs.Cells.{CellKind}
 use Rattle.model.specs.Orders.{Order}
 use Rattle.model.specs.Link.{order_of}
-use Rattle.model.proofs.Shelf.Tests.{cond_eq, cond_ne}
 use Rattle.model.proofs.Readers.Labels.{now, steps_grow, now_lt}
 
 module _ {C : Type 0} (k : CellKind C) (lim : ℕ) where
@@ -20,22 +19,11 @@ module _ {C : Type 0} (k : CellKind C) (lim : ℕ) where
   done_on (e ∷ h) i = cond (eqb i (length h)) (now k lim h (actor e)) (done_on h i)
 
   pub done_on_old : (h : Past C) (e : Event C) (i : ℕ) → i < length h → done_on (e ∷ h) i ≡ done_on h i
-  done_on_old h e i l = cond_ne i (length h) _ _ (λ p. omega arith)
+  done_on_old h e i l = grind arith
 
   pub done_on_lt : (h : Past C) (i : ℕ) → i < length h → done_on h i < (keeper h).steps
   done_on_lt [] i l = absurd (omega arith)
-  done_on_lt (e ∷ h) i l = elim (cases_eq i (length h)) [
-    | inl p ↦ (
-        let q = cond_eq i (length h) (now k lim h (actor e)) (done_on h i) p in
-        let m = now_lt k lim h (actor e) in
-        let g = steps_grow k lim h e in
-        omega arith)
-    | inr n ↦ (
-        let q = cond_ne i (length h) (now k lim h (actor e)) (done_on h i) n in
-        let m = done_on_lt h i (omega arith) in
-        let g = steps_grow k lim h e in
-        omega arith)
-  ]
+  done_on_lt (e ∷ h) i l = grind (arith, nat_tests, done_on_lt h, now_lt k lim, steps_grow k lim)
 
   -- the step on which the task goes on that spawned at a place
   abbrev pub goes_on : Past C → ℕ → ℕ
@@ -43,4 +31,4 @@ module _ {C : Type 0} (k : CellKind C) (lim : ℕ) where
   goes_on (e ∷ h) i = cond (eqb i (length h)) ((keeper h).steps + 1) (goes_on h i)
 
   pub goes_on_old : (h : Past C) (e : Event C) (i : ℕ) → i < length h → goes_on (e ∷ h) i ≡ goes_on h i
-  goes_on_old h e i l = cond_ne i (length h) _ _ (λ p. omega arith)
+  goes_on_old h e i l = grind arith

@@ -1,5 +1,5 @@
 -- The first and the last of a cell's unordered reads in serial order, as one notion: an edge.
-use Rattle.std.proofs.Common.{◌≡◌, ℕ, ◌<◌, Bool, T, ◌⊎◌, List, [], length, Some, None, Option, sym, refl, ap, ◌∙◌, subst, inl, inr}
+use Rattle.std.proofs.Common.{◌≡◌, ℕ, ◌<◌, Bool, T, ◌⊎◌, List, [], length, Some, None, Option, refl, ap, ◌∙◌, subst, arith}
 use Rattle.model.specs.Lists.{mem, keep, first_of, last_of}
 use Rattle.model.specs.Past.{Past}
 use Rattle.model.specs.Before.{serial}
@@ -39,12 +39,7 @@ module _ {C : Type 0} (k : CellKind C) where
   edge_same h h' c None o' old new same up = new.none_in (λ j m. old.none_of refl j (subst (λ l. T (mem j l)) same m))
   edge_same h h' c (Some a) o' old new same up =
       let f = old.some_of a refl in
-      new.some_in a (
-        subst (λ l. T (mem a l)) (sym same) f.0,
-        λ j m.
-            let m' : T (is_unordered h c j) = subst (λ l. T (mem j l)) same m in
-            elim (f.1 j m') [ inl p ↦ inl p | inr r ↦ inr (up a j f.0 m' r) ],
-      )
+      grind arith
 
 module _ {C : Type 0} (k : CellKind C) (lim : ℕ) (laws : (limit : ℕ) (m : Order) → Reached limit m → OrderLaws m) where
   -- serial order of places

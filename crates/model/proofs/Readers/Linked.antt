@@ -1,5 +1,7 @@
 -- What is proved of a past whose events were taken, in the words of the specs.
-use Rattle.std.proofs.Common.{◌≡◌, ℕ, ◌<◌, not, ◌&&◌, T, eqb, ◌⊎◌, ◌↔◌, length, Some, sym, ap, ◌∙◌, subst, subst₂, inl, inr, T_not}
+use Rattle.std.proofs.Math.Facts.{and_yes}
+use Rattle.std.proofs.lemmas.Bool.Decides.{nat_tests}
+use Rattle.std.proofs.Common.{◌≡◌, ℕ, ◌<◌, not, ◌&&◌, T, eqb, ◌⊎◌, ◌↔◌, length, Some, ap, subst, T_not, arith}
 use Rattle.model.specs.declared.Event.{Event}
 use Rattle.model.specs.Lists.{is_empty}
 use Rattle.model.specs.Past.{Past, at, own, home, innermost, innermost_of, same_finish, ended, made, spawned_tasks, lived_in}
@@ -7,15 +9,14 @@ use Rattle.model.specs.Before.{before, serial}
 use Rattle.model.specs.Cells.{CellKind, is_access}
 use Rattle.model.specs.Orders.{Order}
 use Rattle.model.specs.Reached.{Reached, OrderLaws}
-use Rattle.model.specs.Link.{number, order_of, step_at, stands, Linked}
-use Rattle.model.proofs.Shelf.Tests.{same-T, or_r, and_l, and_r}
+use Rattle.model.specs.Link.{order_of, step_at, stands, Linked}
+use Rattle.model.proofs.Shelf.Tests.{or_r}
 use Rattle.model.proofs.Shelf.Lists.{any_of}
 use Rattle.model.proofs.Readers.Sound.{Sound, spawned_is}
-use Rattle.model.proofs.Readers.Finishes.{finish_number, same_finish_eq}
+use Rattle.model.proofs.Readers.Finishes.{finish_number}
 use Rattle.model.proofs.Readers.Reach.{keeper_reached, lives_by, no_lives, full_is}
 use Rattle.model.proofs.Readers.Access.{before_by_steps, steps_by_before}
-use Rattle.model.proofs.Readers.DoneOn.{done_on}
-use Rattle.model.proofs.Readers.Serial.{Serially, stands_serially, serially_stands, serial_once, serial_places}
+use Rattle.model.proofs.Readers.Serial.{stands_serially, serially_stands, serial_once, serial_places}
 use Rattle.model.proofs.Readers.Next.{step_done_on}
 
 -- what holds with no law of orders
@@ -27,13 +28,8 @@ module _ {C : Type 0} (k : CellKind C) (lim : ℕ) where
       let r = any_of (λ u. not (ended h u) && same_finish (home h u) (innermost h t)) (spawned_tasks h) q in
       let u = r.0 in
       let here = same_finish (home h u) (innermost h t) in
-      let known_u = or_r (eqb u 0) (made h u) (same-T (spawned_is k h u) r.1) in
-      let runs = T_not (ended h u) (and_l (not (ended h u)) here r.2) in (
-        number h u,
-        subst (λ f. T ((order_of lim h).lives (finish_number k lim h f) (number h u)))
-            (same_finish_eq (home h u) (innermost h t) (and_r (not (ended h u)) here r.2))
-            (lives_by k lim h s u known_u runs),
-      )
+      let known_u = or_r (eqb u 0) (made h u) (subst T (spawned_is k h u) r.1) in
+      let runs = T_not (ended h u) ((and_yes (not (ended h u)) here r.2).0) in grind (arith, lives_by k lim)
 
   -- and if none does for the rules, none does for the keeper
   pub not_lived : (h : Past C) → Sound k h → (t : ℕ) → (T (is_empty (own h t)) → ⊥) → (T (lived_in h (innermost h t)) → ⊥)
@@ -52,21 +48,7 @@ module _ {C : Type 0} (k : CellKind C) (lim : ℕ) (laws : (limit : ℕ) (m : Or
   SerialSteps h i j = T ((order_of lim h).earlier (step_at h i) (step_at h j)) ⊎ ((step_at h i ≡ step_at h j) × (i < j))
 
   serial_iff : (h : Past C) → Sound k h → (i j : ℕ) → i < length h → j < length h → T (stands (serial h) i j) ↔ SerialSteps h i j
-  serial_iff h s i j li lj = ((λ q. out (stands_serially k lim laws h s i j q)), (λ r. serially_stands k lim laws h s i j li lj (into r)))
-    where
-      x : step_at h i ≡ done_on k lim h i
-      x = step_done_on k lim h s i li
-
-      y : step_at h j ≡ done_on k lim h j
-      y = step_done_on k lim h s j lj
-
-      out : Serially k lim laws h i j → SerialSteps h i j
-      out (inl p) = inl (subst₂ (λ v w. T ((order_of lim h).earlier v w)) (sym x) (sym y) p)
-      out (inr p) = inr (x ∙ (p.0 ∙ sym y), p.1)
-
-      into : SerialSteps h i j → Serially k lim laws h i j
-      into (inl p) = inl (subst₂ (λ v w. T ((order_of lim h).earlier v w)) x y p)
-      into (inr p) = inr (sym x ∙ (p.0 ∙ y), p.1)
+  serial_iff h s i j li lj = grind (arith, nat_tests, stands_serially k lim laws, serially_stands k lim laws, step_done_on k lim)
 
   pub linked : (h : Past C) → Sound k h → Linked lim h
   linked h s =

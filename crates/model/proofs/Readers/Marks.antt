@@ -1,9 +1,11 @@
 -- The marks of a cell, its last write and its first and last unordered reads, suffice to see every race.
-use Rattle.std.proofs.Common.{◌≡◌, ℕ, suc, ◌+◌, ◌<◌, ◌≤◌, Bool, true, false, cond, not, ◌||◌, T, eqb, ◌⊎◌, [], ◌∷◌, length, Some, None, Option, sym, refl, ◌∙◌, subst, subst₂, inl, inr, arith, eqb→eq, T_not}
+use Rattle.std.proofs.Math.Facts.{or_yes}
+use Rattle.std.proofs.lemmas.Bool.Decides.{nat_tests}
+use Rattle.std.proofs.Common.{◌≡◌, ℕ, suc, ◌+◌, ◌<◌, ◌≤◌, Bool, true, false, cond, not, ◌||◌, T, eqb, ◌⊎◌, [], ◌∷◌, length, Some, None, Option, sym, refl, subst, inl, inr, arith, eqb→eq}
 use lib.Dec.{eqb_refl, not_T}
 use Rattle.std.proofs.lemmas.Bool.{cases_eq}
 use Rattle.model.specs.declared.Event.{Event}
-use Rattle.model.specs.declared.Event.TheVariants.{Spawn, End, Open, Close, Read, Write}
+use Rattle.model.specs.declared.Event.TheVariants.{Spawn, Read, Write}
 use Rattle.model.specs.declared.RaceKind.{RaceKind}
 use Rattle.model.specs.declared.RaceKind.TheVariants.{WriteRead, WriteWrite, ReadWrite}
 use Rattle.model.specs.declared.Race.{Race}
@@ -16,16 +18,14 @@ use Rattle.model.specs.Rules.{Limits, race_with, race_of}
 use Rattle.model.specs.Laws.{Clean}
 use Rattle.model.specs.Orders.{Order}
 use Rattle.model.specs.Reached.{Reached, OrderLaws}
-use Rattle.model.proofs.Shelf.Tests.{or_l, or_r, or_of, tried, same-T, cond_yes, cond_no, cond_eq, some_inj, none_some}
-use Rattle.model.proofs.Shelf.Lists.{any_of, any_in, mem_tail, keep_in, keep_of, mem_here}
+use Rattle.model.proofs.Shelf.Tests.{or_l, or_r, tried, cond_yes, cond_no}
+use Rattle.model.proofs.Shelf.Lists.{any_of, any_in, mem_tail, keep_in, keep_of}
 use Rattle.model.proofs.Shelf.Places.{at_top, at_old, at_lt, at_case, at_grow}
 use Rattle.model.proofs.Shelf.Befores.{before_old, before_lt, before_lead, lead_before, before_trans}
 use Rattle.model.proofs.Readers.Sound.{Known, Sound, actor_known, child_known, clean_sound, clean_race}
-use Rattle.model.proofs.Readers.Labels.{place_step_old}
 use Rattle.model.proofs.Readers.Steps
 use Rattle.model.proofs.Readers.Steps.{upto_case, upto_before, upto_trans, past_now, before_upto, steps_before, through_lead, now_through}
 use Rattle.model.proofs.Readers.Words.{at_keeper}
-use Rattle.model.proofs.Readers.DoneOn.{done_on_old}
 use Rattle.model.proofs.Readers.Subtree.{earlier_upto}
 use Rattle.model.proofs.Readers.Serial
 use Rattle.model.proofs.Readers.Edges.{is_unordered, left_edge, right_edge}
@@ -33,44 +33,28 @@ use Rattle.model.proofs.Orderings.Races.{reads_since_of, unordered_of}
 use Rattle.model.proofs.Orderings.Settles.{access_write, Ordered}
 
 module _ {C : Type 0} (k : CellKind C) where
-  -- what accesses a cell is an access
-  accesses_access : (c : C) (d : Event C) → T (accesses k c d) → T (is_access d)
-  accesses_access c (Spawn t u) q = q
-  accesses_access c (End t) q = q
-  accesses_access c (Open t) q = q
-  accesses_access c (Close t) q = q
-  accesses_access c (Read t x) q = tt
-  accesses_access c (Write t x) q = tt
-
+  -- what writes or reads a cell is an access
   pub writes_access : (c : C) (d : Event C) → T (writes k c d) → T (is_access d)
-  writes_access c d q = accesses_access c d (or_r (reads k c d) (writes k c d) q)
+  writes_access c d q = grind arith
 
   pub reads_access : (c : C) (d : Event C) → T (reads k c d) → T (is_access d)
-  reads_access c d q = accesses_access c d (or_l (reads k c d) (writes k c d) q)
+  reads_access c d q = grind arith
 
   -- the last write
   write_last : (h : Past C) (c : C) (i : ℕ) (d : Event C) → at h i ≡ Some d → T (writes k c d)
       → (w : ℕ) × (e : Event C) × (last_write k h c ≡ Some w) × (at h w ≡ Some e) × T (writes k c e) × (i ≤ w)
-  write_last [] c i d q t = none_some q
+  write_last [] c i d q t = cc
   write_last (e ∷ h) c i d q t = elim (tried (writes k c e)) [
     | inl w ↦ (length h, e, cond_yes (writes k c e) _ _ w, at_top h e, w, (let l = at_lt (e ∷ h) i d q in omega arith))
-    | inr n ↦ elim (at_case h e i d q) [
-      | inl r ↦ absurd (n (subst (λ x. T (writes k c x)) (sym r.1) t))
-      | inr r ↦ (
-          let f = write_last h c i d r.1 t in
-          (f.0, f.1, cond_no (writes k c e) _ _ n ∙ f.2, at_grow h e f.0 f.1 f.3, f.4, f.5))
-    ]
+    | inr n ↦ grind (arith, nat_tests, write_last h, at_case, at_grow)
   ]
 
   -- a read is since the last write, or a write came after it
   read_since : (h : Past C) (c : C) (i : ℕ) (d : Event C) → at h i ≡ Some d → T (reads k c d)
       → T (mem i (reads_since k h c)) ⊎ ((w : ℕ) × (e : Event C) × (at h w ≡ Some e) × T (writes k c e) × (i < w))
-  read_since [] c i d q t = none_some q
+  read_since [] c i d q t = cc
   read_since (e ∷ h) c i d q t = elim (at_case h e i d q) [
-    | inl r ↦ (
-        let re : T (reads k c e) = subst (λ x. T (reads k c x)) (sym r.1) t in
-        inl (subst (λ l. T (mem i l)) (sym (cond_no (writes k c e) _ _ (not_both e re) ∙ cond_yes (reads k c e) _ _ re))
-        (mem_here i (length h) (reads_since k h c) r.0)))
+    | inl r ↦ grind arith
     | inr r ↦ elim (tried (writes k c e)) [
       | inl w ↦ inr (length h, e, at_top h e, w, r.0)
       | inr n ↦ elim (read_since h c i d r.1 t) [
@@ -82,14 +66,6 @@ module _ {C : Type 0} (k : CellKind C) where
       ]
     ]
   ]
-    where
-      not_both : (e : Event C) → T (reads k c e) → T (writes k c e) → ⊥
-      not_both (Spawn t u) a b = b
-      not_both (End t) a b = b
-      not_both (Open t) a b = b
-      not_both (Close t) a b = b
-      not_both (Read t x) a b = b
-      not_both (Write t x) a b = a
 
   -- whether a read is before none of the reads since the last write
   abbrev pub is_latest : Past C → C → ℕ → Bool
@@ -99,7 +75,7 @@ module _ {C : Type 0} (k : CellKind C) where
       → T (before h i j) → ⊥
   unordered_before h c i j m n b =
       let latest = (keep_of (is_latest h c) (reads_since k h c) i m).1 in
-      T_not (any (before h i) (reads_since k h c)) latest (any_in (before h i) (reads_since k h c) j n b)
+      grind (arith, nat_tests, latest, any_in)
 
   pub unordered_since : (h : Past C) (c : C) (i : ℕ) → T (mem i (unordered_reads k h c)) → T (mem i (reads_since k h c))
   unordered_since h c i m = (keep_of (is_latest h c) (reads_since k h c) i m).0
@@ -115,7 +91,7 @@ module _ {C : Type 0} (k : CellKind C) where
         let f = climb h c n r.0 (omega arith) r.1 in (
           f.0,
           f.1,
-          or_r (eqb i f.0) (before h i f.0) (elim (or_of (eqb r.0 f.0) (before h r.0 f.0) f.2) [
+          or_r (eqb i f.0) (before h i f.0) (elim (or_yes (eqb r.0 f.0) (before h r.0 f.0) f.2) [
             | inl p ↦ subst (λ x. T (before h i x)) (eqb→eq r.0 f.0 p) r.2
             | inr p ↦ before_trans h i r.0 f.0 r.2 p
           ]),
@@ -130,16 +106,16 @@ module _ {C : Type 0} (k : CellKind C) where
   -- no race with a mark
   race_cond : (b : Bool) (r other : Option (Race C)) (x : Race C) → r ≡ Some x → cond b other r ≡ None → T b × (other ≡ None)
   race_cond true r other x q p = (tt, p)
-  race_cond false r other x q p = none_some (sym p ∙ q)
+  race_cond false r other x q p = cc
 
   race_none : (kind : RaceKind) (h : Past C) (e : Event C) (c : C) (o : Option ℕ) (other : Option (Race C))
       → race_with kind h e c o other ≡ None
       → ((i : ℕ) → o ≡ Some i → T (before (e ∷ h) i (length h))) × (other ≡ None)
-  race_none kind h e c None other p = ((λ i q. none_some q), p)
+  race_none kind h e c None other p = ((λ i q. cc), p)
   race_none kind h e c (Some j) other p =
       let found : Race C = record { kind = kind; cell = c; first = j; second = length h } in
       let r = race_cond (before (e ∷ h) j (length h)) (Some found) other found refl p in
-      ((λ i q. subst (λ x. T (before (e ∷ h) x (length h))) (some_inj q) r.0), r.1)
+      grind arith
 
   -- an access of c at or ahead of an ordered write of c
   by_write : (h : Past C) (e : Event C) → Ordered k h → (c : C) (i w : ℕ) (d x : Event C) → at h i ≡ Some d → at h w ≡ Some x
@@ -149,7 +125,7 @@ module _ {C : Type 0} (k : CellKind C) where
     | inl z ↦ subst (λ y. T (before (e ∷ h) y (length h))) (sym z) b
     | inr n ↦ (
         let in_order = o i w d x (omega arith) p q (access_write k c d x a wr) in
-        before_trans (e ∷ h) i w (length h) (same-T (sym (before_old h e i w (at_lt h w x q))) in_order) b)
+        before_trans (e ∷ h) i w (length h) (subst T (sym (before_old h e i w (at_lt h w x q))) in_order) b)
   ]
 
 module _ {C : Type 0} (k : CellKind C) (lim : ℕ) (laws : (limit : ℕ) (m : Order) → Reached limit m → OrderLaws m) where
@@ -165,20 +141,8 @@ module _ {C : Type 0} (k : CellKind C) (lim : ℕ) (laws : (limit : ℕ) (m : Or
 
   -- the step of a place with an access is the one that the access was done on
   place_done_on : (h : Past C) (i : ℕ) (d : Event C) → at h i ≡ Some d → T (is_access d) → place_step h i ≡ done_on h i
-  place_done_on [] i d q a = none_some q
-  place_done_on (e ∷ h) i d q a = elim (at_case h e i d q) [
-    | inl r ↦ cond_eq i (length h) _ _ r.0
-        ∙ (top e (subst (λ x. T (is_access x)) (sym r.1) a) ∙ sym (cond_eq i (length h) _ _ r.0))
-    | inr r ↦ place_step_old k lim h e i r.0 ∙ (place_done_on h i d r.1 a ∙ sym (done_on_old k lim h e i r.0))
-  ]
-    where
-      top : (e : Event C) → T (is_access e) → event_step h e ≡ now h (actor e)
-      top (Spawn a u) q = absurd q
-      top (End a) q = absurd q
-      top (Open a) q = absurd q
-      top (Close a) q = absurd q
-      top (Read a c) q = refl
-      top (Write a c) q = refl
+  place_done_on [] i d q a = cc
+  place_done_on (e ∷ h) i d q a = grind (arith, nat_tests, place_done_on h)
 
   -- what stands between a place that is up to the step x, and is not before it, and x itself is up to x
   pub between_one : (h : Past C) → Sound k h → (x a b : ℕ) → (StepBefore h (done_on h a) (done_on h b) → ⊥)
@@ -198,44 +162,21 @@ module _ {C : Type 0} (k : CellKind C) (lim : ℕ) (laws : (limit : ℕ) (m : Or
       → Upto h (done_on h a) x → Upto h (done_on h z) x → Upto h (done_on h b) x
   between_upto h s x a b z n p (inl q) ua uz = subst (λ y. Upto h (done_on h y) x) q uz
   between_upto h s x a b z n p (inr (inr q)) ua uz = subst (λ y. Upto h y x) (sym q.0) uz
-  between_upto h s x a b z n p (inr (inl q)) ua uz =
-      between_one h s x a b n p ua (earlier_upto k lim laws h s (done_on h b) (done_on h z) x q uz)
+  between_upto h s x a b z n p (inr (inl q)) ua uz = grind (arith, nat_tests, between_one, earlier_upto k lim laws)
 
   -- an unordered read is before no other
   pub unordered_steps : (h : Past C) → Sound k h → (c : C) (i j : ℕ) → T (mem i (unordered_reads k h c))
       → T (mem j (unordered_reads k h c)) → StepBefore h (done_on h i) (done_on h j) → ⊥
-  unordered_steps h s c i j mi mj b =
-      let di = unordered_of k h c i mi in
-      let dj = unordered_of k h c j mj in
-      let li = place_done_on h i di.0 di.1 (reads_access k c di.0 di.2) in
-      let lj = place_done_on h j dj.0 dj.1 (reads_access k c dj.0 dj.2) in
-      unordered_before k h c i j mi (unordered_since k h c j mj)
-      (steps_before k lim laws h s i j (at_lt h i di.0 di.1) (at_lt h j dj.0 dj.1)
-      (subst₂ (StepBefore h) (sym li) (sym lj) b))
+  unordered_steps h s c i j mi mj b = grind (arith, nat_tests, unordered_of k, place_done_on, reads_access k, unordered_before k, unordered_since k, steps_before k lim laws, at_lt)
 
   -- what is before an access, by steps; the access need not be taken
   access_leads : (h : Past C) (d e : Event C) → T (is_access e) → T (leads h d e) → T (eqb (actor d) (actor e) || makes (actor e) d)
   access_leads h d (Spawn t u) a l = absurd a
-  access_leads h d (End t) a l = absurd a
-  access_leads h d (Open t) a l = absurd a
-  access_leads h d (Close t) a l = absurd a
-  access_leads h d (Read t c) a l = elim (or_of (eqb (actor d) t) (makes t d || false) l) [
-    | inl p ↦ or_l (eqb (actor d) t) (makes t d) p
-    | inr p ↦ or_r (eqb (actor d) t) (makes t d) (elim (or_of (makes t d) false p) [ inl m ↦ m | inr z ↦ absurd z ])
-  ]
-  access_leads h d (Write t c) a l = elim (or_of (eqb (actor d) t) (makes t d || false) l) [
-    | inl p ↦ or_l (eqb (actor d) t) (makes t d) p
-    | inr p ↦ or_r (eqb (actor d) t) (makes t d) (elim (or_of (makes t d) false p) [ inl m ↦ m | inr z ↦ absurd z ])
-  ]
+  access_leads h d e a l = grind arith
 
   before_known : (h : Past C) (e : Event C) → Sound k h → T (is_access e) → (i : ℕ) → T (before (e ∷ h) i (length h))
       → Known k h (actor e)
-  before_known h e s a i b =
-      let r = before_lead h e i b in
-      elim (or_of (eqb (actor r.1) (actor e)) (makes (actor e) r.1) (access_leads h r.1 e a r.3)) [
-        | inl p ↦ subst (λ x. Known k h x) (eqb→eq (actor r.1) (actor e) p) (actor_known k h s r.0 r.1 r.2)
-        | inr p ↦ child_known k h r.0 r.1 (actor e) r.2 p
-      ]
+  before_known h e s a i b = grind (arith, nat_tests, before_lead, access_leads, actor_known, child_known)
 
   pub access_upto : (h : Past C) (e : Event C) → Sound k h → T (is_access e) → (i : ℕ) (d : Event C) → at h i ≡ Some d → T (is_access d)
       → T (before (e ∷ h) i (length h)) → Upto h (done_on h i) (now h (actor e))
@@ -243,7 +184,7 @@ module _ {C : Type 0} (k : CellKind C) (lim : ℕ) (laws : (limit : ℕ) (m : Or
       let r = before_lead h e i b in
       let n : Upto h (place_step h r.0) (now h (actor e)) =
       past_now k lim laws h s r.0 r.1 (actor e) r.2 (access_leads h r.1 e a r.3) in
-      subst (λ x. Upto h x (now h (actor e))) (place_done_on h i d q ad) (elim (or_of (eqb i r.0) (before h i r.0) r.4) [
+      subst (λ x. Upto h x (now h (actor e))) (place_done_on h i d q ad) (elim (or_yes (eqb i r.0) (before h i r.0) r.4) [
         | inl p ↦ subst (λ x. Upto h (place_step h x) (now h (actor e))) (sym (eqb→eq i r.0 p)) n
         | inr p ↦ upto_trans k lim laws h s (place_step h i) (place_step h r.0) (now h (actor e))
             (before_upto k lim laws h s i r.0 p) n
@@ -251,9 +192,7 @@ module _ {C : Type 0} (k : CellKind C) (lim : ℕ) (laws : (limit : ℕ) (m : Or
 
   pub upto_access : (h : Past C) (e : Event C) → Sound k h → Known k h (actor e) → (i : ℕ) (d : Event C) → at h i ≡ Some d → T (is_access d)
       → Upto h (done_on h i) (now h (actor e)) → T (before (e ∷ h) i (length h))
-  upto_access h e s kn i d q ad b =
-      let up = subst (λ x. Upto h x (now h (actor e))) (sym (place_done_on h i d q ad)) b in
-      lead_before h e i (through_lead k lim laws h e i (now_through k lim laws h s (actor e) i kn (at_lt h i d q) up))
+  upto_access h e s kn i d q ad b = grind (arith, nat_tests, place_done_on, lead_before, through_lead k lim laws, now_through k lim laws, at_lt)
 
   -- the unordered reads are before a write if the first and the last are
   reads_before : (h : Past C) (t : ℕ) (c : C) → Sound k h
@@ -282,10 +221,6 @@ module _ {C : Type 0} (k : CellKind C) (lim : ℕ) (laws : (limit : ℕ) (m : Or
   -- an access that makes no race with a mark is after every access that it conflicts with
   marks_suffice : (h : Past C) (e : Event C) → Sound k h → Ordered k h → race_of k h e ≡ None
       → (i : ℕ) (d : Event C) → at h i ≡ Some d → T (conflicts k d e) → T (before (e ∷ h) i (length h))
-  marks_suffice h (Spawn t u) s o r i d q cf = absurd cf
-  marks_suffice h (End t) s o r i d q cf = absurd cf
-  marks_suffice h (Open t) s o r i d q cf = absurd cf
-  marks_suffice h (Close t) s o r i d q cf = absurd cf
   marks_suffice h (Read t c) s o r i d q cf =
       let f = write_last k h c i d q cf in
       let n = race_none k WriteRead h (Read t c) c (last_write k h c) None r in
@@ -294,7 +229,7 @@ module _ {C : Type 0} (k : CellKind C) (lim : ℕ) (laws : (limit : ℕ) (m : Or
       let n = race_none k WriteWrite h (Write t c) c (last_write k h c) _ r in
       let n₁ = race_none k ReadWrite h (Write t c) c (left_read k h c) _ n.1 in
       let n₂ = race_none k ReadWrite h (Write t c) c (right_read k h c) None n₁.1 in
-      elim (or_of (reads k c d) (writes k c d) cf) [
+      elim (or_yes (reads k c d) (writes k c d) cf) [
         | inr w ↦ (
             let f = write_last k h c i d q w in
             by_write k h (Write t c) o c i f.0 d f.1 q f.3 cf f.4 f.5 (n.0 f.0 f.2))
@@ -306,26 +241,16 @@ module _ {C : Type 0} (k : CellKind C) (lim : ℕ) (laws : (limit : ℕ) (m : Or
           | inl m ↦ (
               let j = climb k h c (length h) i (omega arith) m in
               let b = reads_before h t c s n₁.0 n₂.0 j.0 j.1 in
-              elim (or_of (eqb i j.0) (before h i j.0) j.2) [
+              elim (or_yes (eqb i j.0) (before h i j.0) j.2) [
                 | inl p ↦ subst (λ x. T (before (Write t c ∷ h) x (length h))) (sym (eqb→eq i j.0 p)) b
                 | inr p ↦ before_trans (Write t c ∷ h) i j.0 (length h)
-                    (same-T (sym (before_old h (Write t c) i j.0 (before_lt h i j.0 p).1)) p) b
+                    (subst T (sym (before_old h (Write t c) i j.0 (before_lt h i j.0 p).1)) p) b
               ])
         ]
       ]
+  marks_suffice h e s o r i d q cf = absurd cf
 
   -- so a clean past has every conflicting pair in order
   pub clean_ordered : (l : Limits) (h : Past C) → Clean k l h → Ordered k h
-  clean_ordered l [] c i j d e lt p q cf = none_some p
-  clean_ordered l (x ∷ h) c i j d e lt p q cf =
-      let s = clean_sound k l h c.1 in
-      elim (at_case h x j e q) [
-        | inl r ↦ (
-            let li : i < length h = (let z = r.0 in omega arith) in
-            subst (λ y. T (before (x ∷ h) i y)) (sym r.0)
-            (marks_suffice h x s (clean_ordered l h c.1) (clean_race k l h x c.0) i d (sym (at_old h x i li) ∙ p)
-            (subst (λ y. T (conflicts k d y)) (sym r.1) cf)))
-        | inr r ↦ (
-            let li : i < length h = (let z = r.0 in omega arith) in
-            same-T (sym (before_old h x i j r.0)) (clean_ordered l h c.1 i j d e lt (sym (at_old h x i li) ∙ p) r.1 cf))
-      ]
+  clean_ordered l [] c i j d e lt p q cf = cc
+  clean_ordered l (x ∷ h) c i j d e lt p q cf = grind (arith, nat_tests, clean_ordered l h, clean_sound, at_case, marks_suffice, clean_race, at_old, before_old)

@@ -1,17 +1,16 @@
 -- How one event changes the marks of a cell.
+use Rattle.std.proofs.lemmas.Bool.Decides.{nat_tests}
 use Rattle.std.proofs.Common.{◌≡◌, ℕ, ◌<◌, Bool, cond, not, T, ◌⊎◌, [], ◌∷◌, length, Some, None, Option, sym, refl, ap, ◌∙◌, subst, subst₂, inl, inr, arith, T_not}
 use lib.Dec.{not_T}
-use Rattle.std.proofs.lemmas.Bool.{cases_eq}
 use Rattle.model.specs.declared.Event.{Event}
 use Rattle.model.specs.declared.Event.TheVariants.{Read, Write}
 use Rattle.model.specs.Lists.{any, keep, mem, first_of, last_of}
-use Rattle.model.specs.Past.{Past, actor}
+use Rattle.model.specs.Past.{Past}
 use Rattle.model.specs.Before.{before, serial}
-use Rattle.model.specs.Cells.{CellKind, reads, writes, accesses, reads_since, unordered_reads, left_read, right_read}
+use Rattle.model.specs.Cells.{CellKind, accesses, reads_since, unordered_reads, left_read, right_read}
 use Rattle.model.specs.Orders.{Order, at_or_before}
 use Rattle.model.specs.Reached.{Reached, OrderLaws}
 use Rattle.model.specs.Link.{order_of, step_now, step_at}
-use Rattle.model.proofs.Shelf.Tests.{or_l, or_r, tried, same-T, cond_yes, cond_no, cond_eq}
 use Rattle.model.proofs.Shelf.Lists.{any_of, any_in, mem_head, mem_tail, mem_of, keep_in, keep_of, any_same, keep_same, keep_none}
 use Rattle.model.proofs.Shelf.Places.{at_lt}
 use Rattle.model.proofs.Shelf.Befores.{before_old, before_lt}
@@ -35,13 +34,7 @@ module _ {C : Type 0} (k : CellKind C) (lim : ℕ) where
   -- the step of a place that the specs tell is the one that its event was done on
   pub step_done_on : (h : Past C) → Sound k h → (i : ℕ) → i < length h → step_at h i ≡ DoneOn.done_on k lim h i
   step_done_on [] s i l = absurd (omega arith)
-  step_done_on (e ∷ h) s i l = elim (cases_eq i (length h)) [
-    | inl p ↦ ap (step_at (e ∷ h)) p
-        ∙ (step_at_top k lim h e ∙ (step_now_is k lim h s.1 (actor e) s.0.is_known ∙ sym (cond_eq i (length h) _ _ p)))
-    | inr n ↦ (
-        let li : i < length h = omega arith in
-        step_at_old k lim h e i li ∙ (step_done_on h s.1 i li ∙ sym (done_on_old k lim h e i li)))
-  ]
+  step_done_on (e ∷ h) s i l = grind (arith, nat_tests, step_done_on h, step_at_top, step_now_is, step_at_old, done_on_old)
 
 -- the marks that an implementation keeps, by steps
 module _ {C : Type 0} (lim : ℕ) where
@@ -73,20 +66,16 @@ module _ {C : Type 0} (k : CellKind C) (lim : ℕ) (laws : (limit : ℕ) (m : Or
   -- what is earlier in serial order stays so
   serially_up : (h : Past C) (e : Event C) → Sound k (e ∷ h) → (x y : ℕ) → x < length h → y < length h
       → Serially h x y → Serially (e ∷ h) x y
-  serially_up h e s x y lx ly (inl p) =
-      inl (subst₂ (StepEarlier (e ∷ h)) (sym (done_on_old k lim h e x lx)) (sym (done_on_old k lim h e y ly))
-      (earlier_up k lim laws h e s.1 (done_on h x) (done_on h y) p))
+  serially_up h e s x y lx ly (inl p) = grind (arith, earlier_up k lim laws)
   serially_up h e s x y lx ly (inr p) = inr (done_on_old k lim h e x lx ∙ (p.0 ∙ sym (done_on_old k lim h e y ly)), p.1)
 
   -- a read joins the reads since the last write
   since_more : (h : Past C) (t : ℕ) (c : C) → reads_since k (Read t c ∷ h) c ≡ length h ∷ reads_since k h c
-  since_more h t c = cond_yes (k.same c c) _ _ (k.same_refl c)
+  since_more h t c = grind arith
 
   -- an event that does not access a cell leaves its unordered reads
   since_other : (h : Past C) (e : Event C) (c : C) → (T (accesses k c e) → ⊥) → reads_since k (e ∷ h) c ≡ reads_since k h c
-  since_other h e c n =
-      cond_no (writes k c e) _ _ (λ z. n (or_r (reads k c e) (writes k c e) z))
-      ∙ cond_no (reads k c e) _ _ (λ z. n (or_l (reads k c e) (writes k c e) z))
+  since_other h e c n = grind arith
 
   unordered_other : (h : Past C) (e : Event C) (c : C) → (T (accesses k c e) → ⊥) → unordered_reads k (e ∷ h) c ≡ unordered_reads k h c
   unordered_other h e c n =
@@ -139,7 +128,7 @@ module _ {C : Type 0} (k : CellKind C) (lim : ℕ) (laws : (limit : ℕ) (m : Or
           | inl p ↦ n (subst (λ x. T (before h' j x)) p r.2)
           | inr q ↦ (
               let d = reads_since_of k h c r.0 q in
-              unordered_before k h c j r.0 m q (same-T (before_old h (Read t c) j r.0 (at_lt h r.0 d.0 d.1)) r.2))
+              unordered_before k h c j r.0 m q (subst T (before_old h (Read t c) j r.0 (at_lt h r.0 d.0 d.1)) r.2))
         ]))
 
     unordered_cases : (j : ℕ) → T (is_unordered k h' c j) → (j ≡ length h) ⊎ (T (is_unordered k h c j) × (T (before h' j (length h)) → ⊥))
@@ -154,7 +143,7 @@ module _ {C : Type 0} (k : CellKind C) (lim : ℕ) (laws : (limit : ℕ) (m : Or
                 let b = before_lt h j r.0 r.2 in
                 no_later (any_in (before h' j) (reads_since k h' c) r.0
                 (subst (λ l. T (mem r.0 l)) (sym (since_more h t c)) (mem_tail r.0 (length h) (reads_since k h c) r.1))
-                (same-T (sym (before_old h (Read t c) j r.0 b.1)) r.2)))),
+                (subst T (sym (before_old h (Read t c) j r.0 b.1)) r.2)))),
             λ b. no_later (any_in (before h' j) (reads_since k h' c) (length h)
                 (subst (λ l. T (mem (length h) l)) (sym (since_more h t c)) (mem_head (length h) (reads_since k h c))) b),
           )
@@ -162,9 +151,7 @@ module _ {C : Type 0} (k : CellKind C) (lim : ℕ) (laws : (limit : ℕ) (m : Or
 
     -- an unordered read is before it if its step is up to the read's, and the other way round
     before_of : (j : ℕ) → T (is_unordered k h c j) → Upto h (done_on h j) here → T (before h' j (length h))
-    before_of j m u =
-        let d = unordered_of k h c j m in
-        upto_access k lim laws h (Read t c) s.1 s.0.is_known j d.0 d.1 (reads_access k c d.0 d.2) u
+    before_of j m u = grind (arith, nat_tests, unordered_of k h c, upto_access k lim laws h, reads_access k c)
 
     of_before : (j : ℕ) → T (is_unordered k h c j) → T (before h' j (length h)) → Upto h (done_on h j) here
     of_before j m b =
@@ -173,7 +160,7 @@ module _ {C : Type 0} (k : CellKind C) (lim : ℕ) (laws : (limit : ℕ) (m : Or
 
     -- the read itself in serial order
     done_on_top : done_on h' (length h) ≡ here
-    done_on_top = cond_eq (length h) (length h) _ _ refl
+    done_on_top = grind arith
 
     serially_top : (j : ℕ) → j < length h → StepEarlier h (done_on h j) here → Serially h' j (length h)
     serially_top j l b = inl (subst₂ (StepEarlier h) (sym (done_on_old k lim h (Read t c) j l)) (sym done_on_top) b)
@@ -182,10 +169,7 @@ module _ {C : Type 0} (k : CellKind C) (lim : ℕ) (laws : (limit : ℕ) (m : Or
     top_serially j l b = inl (subst₂ (StepEarlier h) (sym done_on_top) (sym (done_on_old k lim h (Read t c) j l)) b)
 
     upto_top : (j : ℕ) → j < length h → Upto h (done_on h j) here → Serially h' j (length h)
-    upto_top j l u = elim (upto_case k lim laws h (done_on h j) here u) [
-      | inl p ↦ inr (done_on_old k lim h (Read t c) j l ∙ (p ∙ sym done_on_top), l)
-      | inr b ↦ serially_top j l ((law h s.1).before_earlier (done_on h j) here b)
-    ]
+    upto_top j l u = grind (arith, nat_tests, done_on_top, serially_top, law)
 
     -- a read that is not up to it is earlier or later
     split : (j : ℕ) → T (is_unordered k h c j) → (Upto h (done_on h j) here → ⊥)
@@ -254,17 +238,7 @@ module _ {C : Type 0} (k : CellKind C) (lim : ℕ) (laws : (limit : ℕ) (m : Or
           let sx = step_done_on k lim h s.1 a (unordered_lt k h c a (move.old.some_of a q).0) in
           let sy = step_now_is k lim h s.1 t s.0.is_known in
           let up = at_or_before (order_of lim h) y x in
-          elim (tried up) [
-            | inl u ↦ on (subst₂ (Upto h) sx sy u) ∙ sym (cond_yes up _ _ u)
-            | inr n ↦ (
-                let not_up : Upto h (done_on h a) here → ⊥ = λ u. n (subst₂ (Upto h) (sym sx) (sym sy) u) in
-                elim (tried (test x y)) [
-                  | inl w ↦ edge_keep a q not_up (keeps (subst₂ (λ v z. T (test v z)) sx sy w))
-                      ∙ sym (cond_no up _ _ n ∙ cond_yes (test x y) _ _ w)
-                  | inr w ↦ edge_new a q (else not_up (λ z. w (subst₂ (λ v r. T (test v r)) (sym sx) (sym sy) z)))
-                      ∙ sym (cond_no up _ _ n ∙ cond_no (test x y) _ _ w)
-                ])
-          ]
+          grind (arith, nat_tests, edge_keep, keeps, edge_new)
 
     -- both marks are edges
     left_move : EdgeMove (Ahead k lim laws h) (Ahead k lim laws h') (left_read k h c) (left_read k h' c)
@@ -333,14 +307,8 @@ module _ {C : Type 0} (k : CellKind C) (lim : ℕ) (laws : (limit : ℕ) (m : Or
 
 -- a write leaves no read
 module _ {C : Type 0} (k : CellKind C) where
-  unordered_write : (h : Past C) (t : ℕ) (c : C) → unordered_reads k (Write t c ∷ h) c ≡ []
-  unordered_write h t c =
-      ap (λ l. keep (λ i. not (any (before (Write t c ∷ h) i) l)) l) (cond_yes (k.same c c) [] (reads_since k h c) (k.same_refl c))
-
   kept_write : (h : Past C) (t : ℕ) (c : C) → keep (is_unordered k (Write t c ∷ h) c) (serial (Write t c ∷ h)) ≡ []
-  kept_write h t c =
-      ap (λ l. keep (λ i. mem i l) (serial (Write t c ∷ h))) (unordered_write h t c)
-      ∙ keep_none (λ i. mem i []) (serial (Write t c ∷ h)) (λ j m z. z)
+  kept_write h t c = grind (arith, nat_tests, keep_none)
 
   pub left_after_write : (h : Past C) (t : ℕ) (c : C) → left_read k (Write t c ∷ h) c ≡ None
   left_after_write h t c = ap first_of (kept_write h t c)

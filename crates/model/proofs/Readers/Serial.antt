@@ -1,8 +1,9 @@
 -- The serial list of a past goes by the serial order of its steps, and by place on one step.
-use Rattle.std.proofs.Common.{◌≡◌, ℕ, suc, ◌+◌, ◌<◌, ◌≤◌, Bool, true, false, cond, T, eqb, ◌⊎◌, List, [], ◌∷◌, length, Some, sym, refl, ap, ◌∙◌, subst, inl, inr, arith, eqb→eq}
+use Rattle.std.proofs.lemmas.Bool.Decides.{nat_tests}
+use Rattle.std.proofs.Common.{◌≡◌, ℕ, suc, ◌+◌, ◌<◌, ◌≤◌, Bool, true, false, cond, T, eqb, ◌⊎◌, List, [], ◌∷◌, length, Some, sym, ap, ◌∙◌, subst, inl, inr, arith}
 use Rattle.std.proofs.lemmas.Bool.{cases_eq}
 use Rattle.model.specs.declared.Event.{Event}
-use Rattle.model.specs.declared.Event.TheVariants.{Spawn, End, Open, Close, Read, Write}
+use Rattle.model.specs.declared.Event.TheVariants.{Spawn}
 use Rattle.model.specs.Lists.{mem, some_or}
 use Rattle.model.specs.Past.{Past, at, actor, child, makes}
 use Rattle.model.specs.Before.{of_task, written, serial}
@@ -10,8 +11,7 @@ use Rattle.model.specs.Cells.{CellKind}
 use Rattle.model.specs.Orders.{Order}
 use Rattle.model.specs.Reached.{Reached, OrderLaws}
 use Rattle.model.specs.Link.{stands, count}
-use Rattle.model.proofs.Shelf.Tests.{or_l, or_of, eqb_in, cond_eq, cond_ne, none_some}
-use Rattle.model.proofs.Shelf.Lists.{mem_head, mem_tail, mem_of, ++_of, ++_l, ++_r, flat_of, flat_in}
+use Rattle.model.proofs.Shelf.Lists.{mem_head, ++_of, ++_l, ++_r, flat_of, flat_in}
 use Rattle.model.proofs.Shelf.Places.{at_top, at_lt, at_some, at_case, at_grow}
 use Rattle.model.proofs.Readers.Sound.{Known, Sound, known_new, actor_known}
 use Rattle.model.proofs.Readers.Steps
@@ -27,7 +27,7 @@ one_sorted true x = ((λ y m. absurd m), tt)
 one_sorted false x = tt
 
 one_mem : (b : Bool) (x y : ℕ) → T (mem y (cond b (x ∷ []) [])) → y ≡ x
-one_mem true x y m = elim (mem_of y x [] m) [ inl p ↦ p | inr z ↦ absurd z ]
+one_mem true x y m = grind arith
 one_mem false x y m = absurd m
 
 module _ {C : Type 0} where
@@ -36,23 +36,12 @@ module _ {C : Type 0} where
   task_mem [] t x m = absurd m
   task_mem (e ∷ h) t x m = elim (++_of x (of_task t h) (cond (eqb t (actor e)) (length h ∷ []) []) m) [
     | inl a ↦ (let r = task_mem h t x a in (r.0, at_grow h e x r.0 r.1, r.2))
-    | inr b ↦ elim (cases_eq t (actor e)) [
-      | inl p ↦ elim (mem_of x (length h) [] (subst (λ l. T (mem x l)) (cond_eq t (actor e) (length h ∷ []) [] p) b)) [
-        | inl q ↦ (e, cond_eq x (length h) _ _ q, sym p)
-        | inr z ↦ absurd z
-      ]
-      | inr n ↦ absurd (subst (λ l. T (mem x l)) (cond_ne t (actor e) (length h ∷ []) [] n) b)
-    ]
+    | inr b ↦ grind arith
   ]
 
   mem_task : (h : Past C) (x : ℕ) (d : Event C) → at h x ≡ Some d → T (mem x (of_task (actor d) h))
-  mem_task [] x d q = none_some q
-  mem_task (e ∷ h) x d q = elim (at_case h e x d q) [
-    | inl r ↦ ++_r x (of_task (actor d) h) (cond (eqb (actor d) (actor e)) (length h ∷ []) [])
-        (subst (λ l. T (mem x l)) (sym (cond_eq (actor d) (actor e) (length h ∷ []) [] (sym (ap actor r.1))))
-        (or_l (eqb x (length h)) false (eqb_in x (length h) r.0)))
-    | inr r ↦ ++_l x (of_task (actor d) h) (cond (eqb (actor d) (actor e)) (length h ∷ []) []) (mem_task h x d r.1)
-  ]
+  mem_task [] x d q = cc
+  mem_task (e ∷ h) x d q = grind (arith, nat_tests, mem_task h, at_case, ++_r, ++_l)
 
   task_sorted : (h : Past C) (t : ℕ) → Sorted ◌<◌ (of_task t h)
   task_sorted [] t = tt
@@ -74,34 +63,19 @@ module _ {C : Type 0} where
 
   after_mem : (n : ℕ) (h : Past C) (y x : ℕ) (d : Event C) → at h y ≡ Some d → T (mem x (after n h y))
       → (u : ℕ) × (d ≡ Spawn (actor d) u) × T (mem x (written n h u))
-  after_mem n h y x d q r = go d (subst (λ o. T (mem x (some_or (λ e. some_or (written n h) [] (child e)) [] o))) q r)
-    where
-      go : (d : Event C) → T (mem x (some_or (written n h) [] (child d))) → (u : ℕ) × (d ≡ Spawn (actor d) u) × T (mem x (written n h u))
-      go (Spawn a u) m = (u, refl, m)
-      go (End a) m = absurd m
-      go (Open a) m = absurd m
-      go (Close a) m = absurd m
-      go (Read a c) m = absurd m
-      go (Write a c) m = absurd m
+  after_mem n h y x d q r = grind arith
 
   span_mem : (n : ℕ) (h : Past C) (y x : ℕ) (d : Event C) → at h y ≡ Some d → T (mem x (span n h y))
       → (x ≡ y) ⊎ ((u : ℕ) × (d ≡ Spawn (actor d) u) × T (mem x (written n h u)))
-  span_mem n h y x d q m = elim (mem_of x y (after n h y) m) [ inl p ↦ inl p | inr r ↦ inr (after_mem n h y x d q r) ]
+  span_mem n h y x d q m = grind arith
 
   mem_span : (n : ℕ) (h : Past C) (y x a u : ℕ) → at h y ≡ Some (Spawn a u) → T (mem x (written n h u)) → T (mem x (span n h y))
-  mem_span n h y x a u q m = mem_tail x y (after n h y)
-      (subst (λ o. T (mem x (some_or (λ e. some_or (written n h) [] (child e)) [] o))) (sym q) m)
+  mem_span n h y x a u q m = grind arith
 
   -- more depth writes no less
   written_more : (n : ℕ) (h : Past C) (t x : ℕ) → T (mem x (written n h t)) → T (mem x (written (suc n) h t))
   written_more ℕ.zero h t x m = absurd m
-  written_more (suc n) h t x m =
-      let r = flat_of (span n h) x (of_task t h) m in
-      let d = task_mem h t r.0 r.1 in
-      flat_in (span (suc n) h) x r.0 (of_task t h) r.1 (elim (span_mem n h r.0 x d.0 d.1 r.2) [
-        | inl p ↦ or_l (eqb x r.0) _ (eqb_in x r.0 p)
-        | inr w ↦ mem_span (suc n) h r.0 x (actor d.0) w.0 (d.1 ∙ ap Some w.1) (written_more n h w.0 x w.2)
-      ])
+  written_more (suc n) h t x m = grind (arith, nat_tests, written_more n, flat_of, task_mem, flat_in, span_mem, mem_span)
 
   written_plus : (j n : ℕ) (h : Past C) (t x : ℕ) → T (mem x (written n h t)) → T (mem x (written (j + n) h t))
   written_plus ℕ.zero n h t x m = subst (λ y. T (mem x (written y h t))) (let e : n ≡ 0 + n = omega arith in e) m
@@ -118,7 +92,7 @@ module _ {C : Type 0} (k : CellKind C) where
       let r = flat_of (span n h) x (of_task t h) m in
       let d = task_mem h t r.0 r.1 in
       elim (span_mem n h r.0 x d.0 d.1 r.2) [
-        | inl p ↦ (d.0, subst (λ y. at h y ≡ Some d.0) (sym p) d.1, subst (λ y. T (subtree h t y)) (sym d.2) (subtree_refl h t))
+        | inl p ↦ grind (arith, nat_tests, subtree_refl)
         | inr w ↦ (let f = written_subtree n h s w.0 x w.2 in (
           f.0,
           f.1,
@@ -132,15 +106,7 @@ module _ {C : Type 0} (k : CellKind C) where
   reach_first : (whole : Past C) (h : Past C) → Sound k h → ((i : ℕ) (d : Event C) → at h i ≡ Some d → at whole i ≡ Some d)
       → (w : ℕ) → Known k h w
       → (q : ℕ) × (q ≤ length h) × ((n x : ℕ) → T (mem x (written n whole w)) → T (mem x (written (q + n) whole 0)))
-  reach_first whole [] s ext w kw = (
-    0,
-    omega arith,
-    λ n x m. elim (or_of (eqb w 0) false kw) [
-      | inl p ↦ subst (λ y. T (mem x (written y whole 0))) (let e : n ≡ 0 + n = omega arith in e)
-          (subst (λ y. T (mem x (written n whole y))) (eqb→eq w 0 p) m)
-      | inr z ↦ absurd z
-    ],
-  )
+  reach_first whole [] s ext w kw = grind arith
   reach_first whole (e ∷ h) s ext w kw = elim (known_new k h e w kw) [
     | inl m ↦ (
         let r = reach_first whole h s.1 (λ i d p. ext i d (at_grow h e i d p)) (actor e) s.0.is_known in
@@ -159,12 +125,8 @@ module _ {C : Type 0} (k : CellKind C) where
   ]
     where
       is_spawn : (e : Event C) (w : ℕ) → T (makes w e) → e ≡ Spawn (actor e) w
-      is_spawn (Spawn a u) w m = ap (λ y. Spawn a y) (sym (eqb→eq w u m))
-      is_spawn (End a) w m = absurd m
-      is_spawn (Open a) w m = absurd m
-      is_spawn (Close a) w m = absurd m
-      is_spawn (Read a c) w m = absurd m
-      is_spawn (Write a c) w m = absurd m
+      is_spawn (Spawn a u) w m = grind arith
+      is_spawn e w m = grind arith
 
   -- depth enough for all is as many as there are events
   fill : (h : Past C) (q x : ℕ) → q ≤ length h → T (mem x (written (q + 1) h 0)) → T (mem x (serial h))
@@ -211,10 +173,7 @@ module _ {C : Type 0} (k : CellKind C) (lim : ℕ) (laws : (limit : ℕ) (m : Or
 
   -- a later place with its step further on is later in serial order
   upto_serially : (h : Past C) → Sound k h → (x y : ℕ) → x < y → Upto h (done_on h x) (done_on h y) → Serially h x y
-  upto_serially h s x y l u = elim (upto_case k lim laws h (done_on h x) (done_on h y) u) [
-    | inl p ↦ inr (p, l)
-    | inr b ↦ inl ((law h s).before_earlier (done_on h x) (done_on h y) b)
-  ]
+  upto_serially h s x y l u = grind (arith, nat_tests, law)
 
   -- the spans of two events of one task stand one after the other
   span_order : (n : ℕ) (h : Past C) → Sound k h → (t y z : ℕ) → T (mem y (of_task t h)) → T (mem z (of_task t h)) → y < z
@@ -233,26 +192,12 @@ module _ {C : Type 0} (k : CellKind C) (lim : ℕ) (laws : (limit : ℕ) (m : Or
             inl (earlier_upto k lim laws h s (done_on h a) (goes_on h y) (done_on h z) i.1
             (goes_on_task k lim laws h s y (actor dy.0) w.0 z dz.0 l sp dz.1 (dz.2 ∙ sym dy.2))))
       ] in
-      elim (span_mem n h z b dz.0 dz.1 mb) [
-        | inl p ↦ subst (λ w. Serially h a w) (sym p) az
-        | inr w ↦ (
-            let f = written_subtree k n h s w.0 b w.2 in
-            let i = within_at k lim laws h s z (actor dz.0) w.0 b f.0 (dz.1 ∙ ap Some w.1) f.1 f.2 in
-            serially_trans h s a z b az (inl i.0))
-      ]
+      grind (arith, nat_tests, span_mem, written_subtree k, within_at k lim laws, serially_trans)
 
   -- so all that is written of a task stands in serial order
   after_sorted : (n : ℕ) (h : Past C) → ((u : ℕ) → Sorted (Serially h) (written n h u)) → (y : ℕ) (d : Event C) → at h y ≡ Some d
       → Sorted (Serially h) (after n h y)
-  after_sorted n h ih y d q = subst (λ o. Sorted (Serially h) (some_or (λ e. some_or (written n h) [] (child e)) [] o)) (sym q) (go d)
-    where
-      go : (d : Event C) → Sorted (Serially h) (some_or (written n h) [] (child d))
-      go (Spawn a u) = ih u
-      go (End a) = tt
-      go (Open a) = tt
-      go (Close a) = tt
-      go (Read a c) = tt
-      go (Write a c) = tt
+  after_sorted n h ih y d q = grind arith
 
   written_sorted : (n : ℕ) (h : Past C) → Sound k h → (t : ℕ) → Sorted (Serially h) (written n h t)
   written_sorted ℕ.zero h s t = tt
@@ -272,13 +217,10 @@ module _ {C : Type 0} (k : CellKind C) (lim : ℕ) (laws : (limit : ℕ) (m : Or
   serial_sorted h s = written_sorted (suc (length h)) h s 0
 
   pub serial_once : (h : Past C) → Sound k h → (x : ℕ) → x < length h → count x (serial h) ≡ 1
-  serial_once h s x l =
-      sorted_once (Serially h) (serially_irr h s) (serially_trans h s) x (serial h) (serial_sorted h s) (serial_has k h s x l)
+  serial_once h s x l = grind (arith, nat_tests, sorted_once, serially_irr, serially_trans, serial_sorted, serial_has)
 
   pub stands_serially : (h : Past C) → Sound k h → (x y : ℕ) → T (stands (serial h) x y) → Serially h x y
   stands_serially h s x y q = stands_rel (Serially h) (serially_irr h s) (serially_trans h s) x y (serial h) (serial_sorted h s) q
 
   pub serially_stands : (h : Past C) → Sound k h → (x y : ℕ) → x < length h → y < length h → Serially h x y → T (stands (serial h) x y)
-  serially_stands h s x y l m r =
-      rel_stands (Serially h) (serially_irr h s) (serially_trans h s) x y (serial h) (serial_sorted h s)
-      (serial_has k h s x l) (serial_has k h s y m) r
+  serially_stands h s x y l m r = grind (arith, nat_tests, rel_stands, serially_irr, serially_trans, serial_sorted, serial_has)

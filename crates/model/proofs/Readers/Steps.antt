@@ -1,4 +1,6 @@
 -- Happens-before of a past is the order of its steps: places of one step in turn, and places of two steps as the keeper orders these.
+use Rattle.std.proofs.Math.Facts.{or_yes, yes_and, and_yes, yes_eqb}
+use Rattle.std.proofs.lemmas.Bool.Decides.{nat_tests}
 use Rattle.std.proofs.Common.{◌≡◌, ℕ, suc, ◌+◌, ◌<◌, ◌≤◌, ◌&&◌, ◌||◌, T, eqb, ◌⊎◌, [], ◌∷◌, length, Some, sym, refl, ap, ◌∙◌, subst, subst₂, inl, inr, arith, eqb→eq}
 use lib.Dec.{eqb_refl}
 use Rattle.std.proofs.lemmas.Bool.{cases_eq}
@@ -9,8 +11,7 @@ use Rattle.model.specs.Before.{leads, awaits, before}
 use Rattle.model.specs.Cells.{CellKind}
 use Rattle.model.specs.Orders.{Order}
 use Rattle.model.specs.Reached.{Reached, OrderLaws}
-use Rattle.model.specs.Link.{number}
-use Rattle.model.proofs.Shelf.Tests.{or_l, or_r, or_of, and_l, and_r, and_in, tried, same-T, eqb_in, cond_eq, cond_ne, none_some}
+use Rattle.model.proofs.Shelf.Tests.{or_l, or_r, tried, cond_eq}
 use Rattle.model.proofs.Shelf.Lists.{any_below_of, any_below_in}
 use Rattle.model.proofs.Shelf.Places.{at_top, at_old, at_lt, at_some, at_case}
 use Rattle.model.proofs.Shelf.Befores.{Lead, before_lead, lead_before, before_old, before_lt}
@@ -30,26 +31,20 @@ module _ {C : Type 0} (k : CellKind C) (lim : ℕ) (laws : (limit : ℕ) (m : Or
   law h s = laws lim (keeper h) (keeper_reached k lim h s)
 
   pub upto_refl : (h : Past C) (x y : ℕ) → x ≡ y → Upto h x y
-  upto_refl h x y e = or_l (eqb x y) ((keeper h).before x y) (eqb_in x y e)
+  upto_refl h x y e = grind arith
 
   pub upto_before : (h : Past C) (x y : ℕ) → StepBefore h x y → Upto h x y
-  upto_before h x y b = or_r (eqb x y) ((keeper h).before x y) b
+  upto_before h x y b = grind arith
 
   pub upto_case : (h : Past C) (x y : ℕ) → Upto h x y → (x ≡ y) ⊎ StepBefore h x y
-  upto_case h x y u = elim (or_of (eqb x y) ((keeper h).before x y) u) [ inl p ↦ inl (eqb→eq x y p) | inr q ↦ inr q ]
+  upto_case h x y u = grind arith
 
   pub upto_trans : (h : Past C) → Sound k h → (x y z : ℕ) → Upto h x y → Upto h y z → Upto h x z
-  upto_trans h s x y z p q = elim (upto_case h x y p) [
-    | inl e ↦ subst (λ w. Upto h w z) (sym e) q
-    | inr b ↦ elim (upto_case h y z q) [
-      | inl e ↦ subst (λ w. Upto h x w) e p
-      | inr c ↦ upto_before h x z ((law h s).before_trans x y z b c)
-    ]
-  ]
+  upto_trans h s x y z p q = grind (arith, nat_tests, upto_before, law)
 
   -- up to a step that an event adds
   pub upto_new : (h : Past C) (e : Event C) (x y : ℕ) → Upto h x y → y < (keeper h).steps → Upto (e ∷ h) x y
-  upto_new h e x y u l = same-T (sym (upto_kept k lim h e x y l)) u
+  upto_new h e x y u l = grind arith
 
   before_irrefl : (h : Past C) → Sound k h → (x : ℕ) → StepBefore h x x → ⊥
   before_irrefl h s x b = (law h s).earlier_irrefl x ((law h s).before_earlier x x b)
@@ -58,62 +53,28 @@ module _ {C : Type 0} (k : CellKind C) (lim : ℕ) (laws : (limit : ℕ) (m : Or
   pub spawn_upto : (h : Past C) (a u : ℕ) → Sound k (Spawn a u ∷ h) → (x y : ℕ) → (y ≡ (keeper h).steps) ⊎ (y ≡ (keeper h).steps + 1)
       → Upto h x (now h a) → Upto (Spawn a u ∷ h) x y
   spawn_upto h a u s x y new up =
-      upto_before (Spawn a u ∷ h) x y (same-T (sym (spawn_new k lim h s.1 a u s.0.is_known x y new)) up)
+      upto_before (Spawn a u ∷ h) x y (subst T (sym (spawn_new k lim h s.1 a u s.0.is_known x y new)) up)
 
   -- a known task's step only moves on
   pub now_grows : (h : Past C) (e : Event C) → Sound k (e ∷ h) → (t : ℕ) → Known k h t → Upto (e ∷ h) (now h t) (now (e ∷ h) t)
-  now_grows h (Spawn a u) s t q = elim (cases_eq t u) [
-    | inl p ↦ absurd (s.0.extra (subst (λ x. Known k h x) p q))
-    | inr n ↦ elim (cases_eq t a) [
-      | inl p ↦ spawn_upto h a u s (now h t) (now (Spawn a u ∷ h) t) (inr (now_parent k lim h a u t n p))
-          (upto_refl h (now h t) (now h a) (ap (now h) p))
-      | inr m ↦ upto_refl (Spawn a u ∷ h) (now h t) (now (Spawn a u ∷ h) t)
-          (sym (now_other k lim h (Spawn a u) t m (λ z. n (eqb→eq t u z))))
-    ]
-  ]
-  now_grows h (End a) s t q = upto_refl (End a ∷ h) (now h t) (now (End a ∷ h) t) (sym (now_end k lim h a t))
-  now_grows h (Open a) s t q = elim (cases_eq t a) [
-    | inl p ↦ upto_before (Open a ∷ h) (now h t) (now (Open a ∷ h) t)
-        (subst (λ y. StepBefore (Open a ∷ h) (now h t) y) (sym (now_open k lim h a t p))
-        (same-T (sym (open_new k lim h s.1 a s.0.is_known (now h t))) (upto_refl h (now h t) (now h a) (ap (now h) p))))
-    | inr m ↦ upto_refl (Open a ∷ h) (now h t) (now (Open a ∷ h) t) (sym (now_other k lim h (Open a) t m (λ z. z)))
-  ]
-  now_grows h (Close a) s t q = elim (cases_eq t a) [
-    | inl p ↦ upto_before (Close a ∷ h) (now h t) (now (Close a ∷ h) t)
-        (subst (λ y. StepBefore (Close a ∷ h) (now h t) y) (sym (now_close k lim h a t p))
-        (same-T (sym (close_new k lim h s.1 a s.0.is_known s.0.runs (now h t)))
-        (or_l (is_upto k lim h (now h t) (now h a)) _ (upto_refl h (now h t) (now h a) (ap (now h) p)))))
-    | inr m ↦ upto_refl (Close a ∷ h) (now h t) (now (Close a ∷ h) t) (sym (now_other k lim h (Close a) t m (λ z. z)))
-  ]
-  now_grows h (Read a c) s t q = upto_refl h (now h t) (now h t) refl
-  now_grows h (Write a c) s t q = upto_refl h (now h t) (now h t) refl
+  now_grows h (Spawn a u) s t q = grind (arith, nat_tests, spawn_upto, now_parent, upto_refl, now_other)
+  now_grows h e s t q = grind (arith, nat_tests, now_parent, upto_refl, now_other, now_end, upto_before, now_open, open_new, now_close, close_new)
 
   -- an event's step is up to its task's next one, and up to the first one of the task that it makes
   event_actor : (h : Past C) (e : Event C) → Sound k (e ∷ h) → Upto (e ∷ h) (event_step h e) (now (e ∷ h) (actor e))
-  event_actor h (Spawn a u) s = now_grows h (Spawn a u) s a s.0.is_known
-  event_actor h (End a) s = now_grows h (End a) s a s.0.is_known
-  event_actor h (Open a) s = now_grows h (Open a) s a s.0.is_known
   event_actor h (Close a) s = upto_refl (Close a ∷ h) (keeper h).steps (now (Close a ∷ h) a) (sym (now_close k lim h a a refl))
-  event_actor h (Read a c) s = now_grows h (Read a c) s a s.0.is_known
-  event_actor h (Write a c) s = now_grows h (Write a c) s a s.0.is_known
+  event_actor h e s = now_grows h e s (actor e) s.0.is_known
 
   event_child : (h : Past C) (e : Event C) → Sound k (e ∷ h) → (u : ℕ) → T (makes u e) → Upto (e ∷ h) (event_step h e) (now (e ∷ h) u)
-  event_child h (Spawn a v) s u m =
-      spawn_upto h a v s (now h a) (now (Spawn a v ∷ h) u) (inl (now_child k lim h a v u (eqb→eq u v m)))
-      (upto_refl h (now h a) (now h a) refl)
-  event_child h (End a) s u m = absurd m
-  event_child h (Open a) s u m = absurd m
-  event_child h (Close a) s u m = absurd m
-  event_child h (Read a c) s u m = absurd m
-  event_child h (Write a c) s u m = absurd m
+  event_child h (Spawn a v) s u m = grind (arith, nat_tests, spawn_upto, now_child, upto_refl)
+  event_child h e s u m = grind arith
 
   -- the step of each event of a task, or that made it, is up to the task's current one
   pub past_now : (h : Past C) → Sound k h → (i : ℕ) (d : Event C) (t : ℕ) → at h i ≡ Some d → T (eqb (actor d) t || makes t d)
       → Upto h (place_step h i) (now h t)
-  past_now [] s i d t q b = none_some q
+  past_now [] s i d t q b = cc
   past_now (e ∷ h) s i d t q b = elim (at_case h e i d q) [
-    | inl r ↦ subst (λ x. Upto (e ∷ h) x (now (e ∷ h) t)) (sym (cond_eq i (length h) _ _ r.0))
-        (top (subst (λ x. T (eqb (actor x) t || makes t x)) (sym r.1) b))
+    | inl r ↦ grind (arith, nat_tests, top)
     | inr r ↦ subst (λ x. Upto (e ∷ h) x (now (e ∷ h) t)) (sym (place_step_old k lim h e i r.0))
         (upto_trans (e ∷ h) s (place_step h i) (now h t) (now (e ∷ h) t)
         (upto_new h e (place_step h i) (now h t) (past_now h s.1 i d t r.1 b) (now_lt k lim h t))
@@ -121,67 +82,45 @@ module _ {C : Type 0} (k : CellKind C) (lim : ℕ) (laws : (limit : ℕ) (m : Or
   ]
     where
       top : T (eqb (actor e) t || makes t e) → Upto (e ∷ h) (event_step h e) (now (e ∷ h) t)
-      top c = elim (or_of (eqb (actor e) t) (makes t e) c) [
-        | inl p ↦ subst (λ x. Upto (e ∷ h) (event_step h e) (now (e ∷ h) x)) (eqb→eq (actor e) t p) (event_actor h e s)
-        | inr p ↦ event_child h e s t p
-      ]
+      top c = grind (arith, nat_tests, event_actor, event_child)
 
       kn : at h i ≡ Some d → Known k h t
-      kn r = elim (or_of (eqb (actor d) t) (makes t d) b) [
-        | inl p ↦ subst (λ x. Known k h x) (eqb→eq (actor d) t p) (actor_known k h s.1 i d r)
-        | inr p ↦ child_known k h i d t r p
-      ]
+      kn r = grind (arith, nat_tests, actor_known, child_known)
 
   -- an event that leads to the next one has its step up to the next one's
   now_event : (h : Past C) (e : Event C) → Sound k (e ∷ h) → Upto (e ∷ h) (now h (actor e)) (event_step h e)
-  now_event h (Spawn a u) s = upto_refl (Spawn a u ∷ h) (now h a) (now h a) refl
-  now_event h (End a) s = upto_refl (End a ∷ h) (now h a) (now h a) refl
-  now_event h (Open a) s = upto_refl (Open a ∷ h) (now h a) (now h a) refl
   now_event h (Close a) s =
       subst (λ x. Upto (Close a ∷ h) (now h a) x) (now_close k lim h a a refl) (now_grows h (Close a) s a s.0.is_known)
   now_event h (Read a c) s = upto_refl h (now h a) (now h a) refl
   now_event h (Write a c) s = upto_refl h (now h a) (now h a) refl
+  now_event h e s = upto_refl (e ∷ h) (now h (actor e)) (now h (actor e)) refl
 
   -- an event that ends its own task
   is_end : (d : Event C) → T (ends (actor d) d) → d ≡ End (actor d)
   is_end (Spawn a u) q = absurd q
-  is_end (End a) q = refl
-  is_end (Open a) q = absurd q
-  is_end (Close a) q = absurd q
-  is_end (Read a c) q = absurd q
-  is_end (Write a c) q = absurd q
+  is_end e q = grind arith
 
   -- an end that a close awaits has its step up to the close's
   await_event : (h : Past C) (e : Event C) → Sound k (e ∷ h) → (i : ℕ) (d : Event C) → at h i ≡ Some d → T (awaits h d e)
       → Upto (e ∷ h) (place_step h i) (event_step h e)
-  await_event h (Spawn a u) s i d q w = absurd w
-  await_event h (End a) s i d q w = absurd w
-  await_event h (Open a) s i d q w = absurd w
   await_event h (Close a) s i d q w =
       let at_home = same_finish (home h (actor d)) (innermost h a) in
-      let an_end = is_end d (and_l (ends (actor d) d) at_home w) in
-      let same = same_finish_eq (home h (actor d)) (innermost h a) (and_r (ends (actor d) d) at_home w) in
+      let an_end = is_end d ((and_yes (ends (actor d) d) at_home w).0) in
+      let same = same_finish_eq (home h (actor d)) (innermost h a) ((and_yes (ends (actor d) d) at_home w).1) in
       let f = finish_number h (innermost h a) in
       let l = place_step h i in
       let z : T ((keeper h).last f l) =
       subst (λ x. T ((keeper h).last (finish_number h x) l)) same (last_step_by k lim h s.1 i (actor d) (q ∙ ap Some an_end)) in
       upto_before (Close a ∷ h) l (keeper h).steps
-      (same-T (sym (close_new k lim h s.1 a s.0.is_known s.0.runs l))
+      (subst T (sym (close_new k lim h s.1 a s.0.is_known s.0.runs l))
       (or_r (is_upto k lim h l (now h a)) (waits k lim h f l)
       (any_below_in (λ x. (keeper h).last f x && is_upto k lim h l x) (keeper h).steps l (place_step_lt k lim h i (at_lt h i d q))
-      (and_in ((keeper h).last f l) (is_upto k lim h l l) z (upto_refl h l l refl)))))
-  await_event h (Read a c) s i d q w = absurd w
-  await_event h (Write a c) s i d q w = absurd w
+      (yes_and ((keeper h).last f l) (is_upto k lim h l l) z (upto_refl h l l refl)))))
+  await_event h e s i d q w = absurd w
 
   lead_event : (h : Past C) (e : Event C) → Sound k (e ∷ h) → (i : ℕ) (d : Event C) → at h i ≡ Some d → T (leads h d e)
       → Upto (e ∷ h) (place_step h i) (event_step h e)
-  lead_event h e s i d q l = elim (or_of (eqb (actor d) (actor e)) (makes (actor e) d || awaits h d e) l) [
-    | inl p ↦ by_now (or_l (eqb (actor d) (actor e)) (makes (actor e) d) p)
-    | inr p ↦ elim (or_of (makes (actor e) d) (awaits h d e) p) [
-      | inl m ↦ by_now (or_r (eqb (actor d) (actor e)) (makes (actor e) d) m)
-      | inr w ↦ await_event h e s i d q w
-    ]
-  ]
+  lead_event h e s i d q l = grind (arith, nat_tests, by_now, await_event)
     where
       by_now : T (eqb (actor d) (actor e) || makes (actor e) d) → Upto (e ∷ h) (place_step h i) (event_step h e)
       by_now b = upto_trans (e ∷ h) s (place_step h i) (now h (actor e)) (event_step h e)
@@ -196,11 +135,11 @@ module _ {C : Type 0} (k : CellKind C) (lim : ℕ) (laws : (limit : ℕ) (m : Or
         let r = before_lead h e i (subst (λ x. T (before (e ∷ h) i x)) p b) in
         let j' = r.0 in
         let lj = at_lt h j' r.1 r.2 in
-        let li : i < length h = elim (or_of (eqb i j') (before h i j') r.4) [
+        let li : i < length h = elim (or_yes (eqb i j') (before h i j') r.4) [
           | inl z ↦ (let z' = eqb→eq i j' z in omega arith)
           | inr z ↦ (let z' = before_lt h i j' z in omega arith)
         ] in
-        let first : Upto h (place_step h i) (place_step h j') = elim (or_of (eqb i j') (before h i j') r.4) [
+        let first : Upto h (place_step h i) (place_step h j') = elim (or_yes (eqb i j') (before h i j') r.4) [
           | inl z ↦ upto_refl h (place_step h i) (place_step h j') (ap (place_step h) (eqb→eq i j' z))
           | inr z ↦ before_upto h s.1 i j' z
         ] in
@@ -209,12 +148,7 @@ module _ {C : Type 0} (k : CellKind C) (lim : ℕ) (laws : (limit : ℕ) (m : Or
         (upto_new h e (place_step h i) (place_step h j') first (place_step_lt k lim h j' lj))
         (lead_event h e s j' r.1 r.2 r.3) in
         subst₂ (Upto (e ∷ h)) (sym (place_step_old k lim h e i li)) (sym (cond_eq j (length h) _ _ p)) whole)
-    | inr n ↦ (
-        let b' : T (before h i j) = subst T (cond_ne j (length h) _ (before h i j) n) b in
-        let l = before_lt h i j b' in
-        let li : i < length h = omega arith in
-        subst₂ (Upto (e ∷ h)) (sym (place_step_old k lim h e i li)) (sym (place_step_old k lim h e j l.1))
-        (upto_new h e (place_step h i) (place_step h j) (before_upto h s.1 i j b') (place_step_lt k lim h j l.1)))
+    | inr n ↦ grind (arith, nat_tests, before_upto h, before_lt, place_step_old, upto_new, place_step_lt)
   ]
 
   -- two places of one step
@@ -232,13 +166,10 @@ module _ {C : Type 0} (k : CellKind C) (lim : ℕ) (laws : (limit : ℕ) (m : Or
           i,
           d.0,
           d.1,
-          or_l (eqb (actor d.0) (actor e)) (makes (actor e) d.0 || awaits h d.0 e) (eqb_in (actor d.0) (actor e) same),
+          or_l (eqb (actor d.0) (actor e)) (makes (actor e) d.0 || awaits h d.0 e) (yes_eqb same),
           or_l (eqb i i) (before h i i) (eqb_refl i),
         )))
-    | inr n ↦ (
-        let lj : j < length h = omega arith in
-        same-T (sym (before_old h e i j lj))
-        (same_step h s.1 i j l lj (sym (place_step_old k lim h e i (omega arith)) ∙ (q ∙ place_step_old k lim h e j lj))))
+    | inr n ↦ grind (arith, nat_tests, same_step h)
   ]
 
   -- an event of the task, or that made it, at or after i
@@ -247,17 +178,11 @@ module _ {C : Type 0} (k : CellKind C) (lim : ℕ) (laws : (limit : ℕ) (m : Or
 
   -- the step that the next event is done on is before no step held so far, and neither is the event's own
   now_last : (h : Past C) (e : Event C) → Sound k (e ∷ h) → (y : ℕ) → StepBefore h (now h (actor e)) y → ⊥
-  now_last h e s y b =
-      (law h s.1).current_last (number h (actor e)) y (runs_now k lim h s.1 (actor e) s.0.is_known s.0.runs)
-      (subst (λ x. StepBefore h x y) (sym (current_is k lim h s.1 (actor e) s.0.is_known)) b)
+  now_last h e s y b = grind (arith, nat_tests, law, runs_now k lim, current_is k lim, s.0.is_known)
 
   event_last : (h : Past C) (e : Event C) → Sound k (e ∷ h) → (y : ℕ) → StepBefore h (event_step h e) y → ⊥
-  event_last h (Spawn a u) s y b = now_last h (Spawn a u) s y b
-  event_last h (End a) s y b = now_last h (End a) s y b
-  event_last h (Open a) s y b = now_last h (Open a) s y b
   event_last h (Close a) s y b = let l = (law h s.1).before_held (keeper h).steps y b in omega arith
-  event_last h (Read a c) s y b = now_last h (Read a c) s y b
-  event_last h (Write a c) s y b = now_last h (Write a c) s y b
+  event_last h e s y b = now_last h e s y b
 
   -- the next event is done on no other task's step
   now_apart : (h : Past C) → Sound k h → (t u : ℕ) → Known k h t → Known k h u → now h u ≡ now h t → t ≡ u
@@ -265,11 +190,7 @@ module _ {C : Type 0} (k : CellKind C) (lim : ℕ) (laws : (limit : ℕ) (m : Or
 
   event_other : (h : Past C) (e : Event C) → Sound k (e ∷ h) → (t : ℕ) → Known k h t → (t ≡ actor e → ⊥) → event_step h e ≡ now h t → ⊥
   event_other h (Close a) s t q n p = let l = now_lt k lim h t in omega arith
-  event_other h (Spawn a u) s t q n p = n (now_apart h s.1 t a q s.0.is_known p)
-  event_other h (End a) s t q n p = n (now_apart h s.1 t a q s.0.is_known p)
-  event_other h (Open a) s t q n p = n (now_apart h s.1 t a q s.0.is_known p)
-  event_other h (Read a c) s t q n p = n (now_apart h s.1 t a q s.0.is_known p)
-  event_other h (Write a c) s t q n p = n (now_apart h s.1 t a q s.0.is_known p)
+  event_other h e s t q n p = grind (arith, nat_tests, now_apart)
 
   -- what is up to the next step of the tasks that an event moves or makes is up to the event's own
   old_new : (h : Past C) (e : Event C) (x y : ℕ) → x < (keeper h).steps → (keeper h).steps ≤ y → Upto (e ∷ h) x y
@@ -280,33 +201,17 @@ module _ {C : Type 0} (k : CellKind C) (lim : ℕ) (laws : (limit : ℕ) (m : Or
       → Upto (e ∷ h) x (now (e ∷ h) t) → Upto (e ∷ h) x (event_step h e)
   touched h (Spawn a u) s t x c l q =
       upto_new h (Spawn a u) x (now h a)
-      (same-T (spawn_new k lim h s.1 a u s.0.is_known x (now (Spawn a u ∷ h) t) new)
+      (subst T (spawn_new k lim h s.1 a u s.0.is_known x (now (Spawn a u ∷ h) t) new)
       (old_new h (Spawn a u) x (now (Spawn a u ∷ h) t) l high q))
       (now_lt k lim h a)
     where
       new : (now (Spawn a u ∷ h) t ≡ (keeper h).steps) ⊎ (now (Spawn a u ∷ h) t ≡ (keeper h).steps + 1)
-      new = elim (cases_eq t u) [
-        | inl p ↦ inl (now_child k lim h a u t p)
-        | inr n ↦ elim c [ inl p ↦ inr (now_parent k lim h a u t n p) | inr m ↦ absurd (n (eqb→eq t u m)) ]
-      ]
+      new = grind arith
 
       high : (keeper h).steps ≤ now (Spawn a u ∷ h) t
       high = elim new [ inl p ↦ omega arith | inr p ↦ omega arith ]
-  touched h (End a) s t x c l q = elim c [
-    | inl p ↦ subst (λ y. Upto (End a ∷ h) x y) (now_end k lim h a t ∙ ap (now h) p) q
-    | inr z ↦ absurd z
-  ]
-  touched h (Open a) s t x c l q = elim c [
-    | inl p ↦ (
-        let up = subst (λ y. Upto (Open a ∷ h) x y) (now_open k lim h a t p) q in
-        upto_new h (Open a) x (now h a)
-        (same-T (open_new k lim h s.1 a s.0.is_known x) (old_new h (Open a) x (keeper h).steps l (omega arith) up))
-        (now_lt k lim h a))
-    | inr z ↦ absurd z
-  ]
-  touched h (Close a) s t x c l q = elim c [ inl p ↦ subst (λ y. Upto (Close a ∷ h) x y) (now_close k lim h a t p) q | inr z ↦ absurd z ]
-  touched h (Read a c') s t x c l q = elim c [ inl p ↦ subst (λ y. Upto h x (now h y)) p q | inr z ↦ absurd z ]
-  touched h (Write a c') s t x c l q = elim c [ inl p ↦ subst (λ y. Upto h x (now h y)) p q | inr z ↦ absurd z ]
+  touched h (End a) s t x c l q = grind arith
+  touched h e s t x c l q = grind (arith, nat_tests, upto_new, open_new, old_new, now_lt, now_close)
 
   -- what steps tell of places, proved by induction along the past
   record Tells (h : Past C) : Type 0 where
@@ -314,17 +219,7 @@ module _ {C : Type 0} (k : CellKind C) (lim : ℕ) (laws : (limit : ℕ) (m : Or
     ordered : (i j : ℕ) → i < length h → j < length h → StepBefore h (place_step h i) (place_step h j) → T (before h i j)
 
   pub through_lead : (h : Past C) (e : Event C) (i : ℕ) → ThroughTask h i (actor e) → Lead h e i
-  through_lead h e i v =
-      let d = v.1 in (
-        v.0,
-        d,
-        v.2,
-        elim (or_of (eqb (actor d) (actor e)) (makes (actor e) d) v.3) [
-          | inl p ↦ or_l (eqb (actor d) (actor e)) (makes (actor e) d || awaits h d e) p
-          | inr p ↦ or_r (eqb (actor d) (actor e)) (makes (actor e) d || awaits h d e) (or_l (makes (actor e) d) (awaits h d e) p)
-        ],
-        v.4,
-      )
+  through_lead h e i v = grind arith
 
   -- up to the step of an end is at or before the end
   to_end : (h : Past C) → Sound k h → Tells h → (i j w : ℕ) → i < length h → at h j ≡ Some (End w)
@@ -338,7 +233,7 @@ module _ {C : Type 0} (k : CellKind C) (lim : ℕ) (laws : (limit : ℕ) (m : Or
             sym (owner_place k lim h s i d.0 d.1) ∙ (ap (owner h) p ∙ owner_place k lim h s j (End w) q) in
             let le = end_last k h s j i w d.0 q d.1 same in
             elim (cases_eq i j) [
-              | inl z ↦ or_l (eqb i j) (before h i j) (eqb_in i j z)
+              | inl z ↦ or_l (eqb i j) (before h i j) (yes_eqb z)
               | inr n ↦ or_r (eqb i j) (before h i j) (same_step h s i j (omega arith) lj p)
             ])
         | inr p ↦ or_r (eqb i j) (before h i j) (b.ordered i j l lj p)
@@ -351,39 +246,37 @@ module _ {C : Type 0} (k : CellKind C) (lim : ℕ) (laws : (limit : ℕ) (m : Or
       let x = place_step h i in
       let f = finish_number h (innermost h a) in
       let held = old_new h (Close a) x (keeper h).steps (place_step_lt k lim h i l) (omega arith) u in
-      elim (or_of (is_upto k lim h x (now h a)) (waits k lim h f x)
-      (same-T (close_new k lim h s.1 a s.0.is_known s.0.runs x) held)) [
+      elim (or_yes (is_upto k lim h x (now h a)) (waits k lim h f x)
+      (subst T (close_new k lim h s.1 a s.0.is_known s.0.runs x) held)) [
         | inl p ↦ through_lead h (Close a) i (b.through a i s.0.is_known l p)
         | inr p ↦ (
             let r = any_below_of (λ y. (keeper h).last f y && is_upto k lim h x y) (keeper h).steps p in
-            let la = last_step_of k lim h s.1 f r.0 (and_l ((keeper h).last f r.0) (is_upto k lim h x r.0) r.2) in
+            let la = last_step_of k lim h s.1 f r.0 ((and_yes ((keeper h).last f r.0) (is_upto k lim h x r.0) r.2).0) in
             let up : Upto h x (place_step h la.0) =
-            subst (λ y. Upto h x y) (sym la.4) (and_r ((keeper h).last f r.0) (is_upto k lim h x r.0) r.2) in
+            subst (λ y. Upto h x y) (sym la.4) ((and_yes ((keeper h).last f r.0) (is_upto k lim h x r.0) r.2).1) in
             let w = la.1 in
             let at_home = finish_number_inj k lim h (home h w) (innermost h a) (home_has h w) (inner_has h a) la.3 in (
               la.0,
               End w,
               la.2,
-              or_r (eqb w a) (awaits h (End w) (Close a)) (and_in (eqb w w) (same_finish (home h w) (innermost h a)) (eqb_refl w)
+              or_r (eqb w a) (awaits h (End w) (Close a)) (yes_and (eqb w w) (same_finish (home h w) (innermost h a)) (eqb_refl w)
                   (subst (λ g. T (same_finish (home h w) g)) at_home (same_finish_refl (home h w)))),
               to_end h s.1 b i la.0 w l la.2 up,
             ))
       ]
   upto_lead h (Spawn a u') s b i l u =
       through_lead h (Spawn a u') i (b.through a i s.0.is_known l
-      (same-T (upto_kept k lim h (Spawn a u') (place_step h i) (now h a) (now_lt k lim h a)) u))
-  upto_lead h (End a) s b i l u = through_lead h (End a) i (b.through a i s.0.is_known l u)
+      (subst T (upto_kept k lim h (Spawn a u') (place_step h i) (now h a) (now_lt k lim h a)) u))
   upto_lead h (Open a) s b i l u =
       through_lead h (Open a) i (b.through a i s.0.is_known l
-      (same-T (upto_kept k lim h (Open a) (place_step h i) (now h a) (now_lt k lim h a)) u))
-  upto_lead h (Read a c) s b i l u = through_lead h (Read a c) i (b.through a i s.0.is_known l u)
-  upto_lead h (Write a c) s b i l u = through_lead h (Write a c) i (b.through a i s.0.is_known l u)
+      (subst T (upto_kept k lim h (Open a) (place_step h i) (now h a) (now_lt k lim h a)) u))
+  upto_lead h e s b i l u = grind arith
 
   through_next : (h : Past C) (e : Event C) → Sound k (e ∷ h) → Tells h
       → (t i : ℕ) → Known k (e ∷ h) t → i < suc (length h) → Upto (e ∷ h) (place_step (e ∷ h) i) (now (e ∷ h) t) → ThroughTask (e ∷ h) i t
   through_next h e s b t i q l u = elim (tried (eqb (actor e) t || makes t e)) [
     | inl c ↦ elim (cases_eq i (length h)) [
-      | inl p ↦ (length h, e, at_top h e, c, or_l (eqb i (length h)) (before (e ∷ h) i (length h)) (eqb_in i (length h) p))
+      | inl p ↦ (length h, e, at_top h e, c, or_l (eqb i (length h)) (before (e ∷ h) i (length h)) (yes_eqb p))
       | inr n ↦ (
           let li : i < length h = omega arith in
           let up = subst (λ x. Upto (e ∷ h) x (now (e ∷ h) t)) (place_step_old k lim h e i li) u in
@@ -396,7 +289,7 @@ module _ {C : Type 0} (k : CellKind C) (lim : ℕ) (laws : (limit : ℕ) (m : Or
           ))
     ]
     | inr c ↦ (
-        let na : t ≡ actor e → ⊥ = λ p. c (or_l (eqb (actor e) t) (makes t e) (eqb_in (actor e) t (sym p))) in
+        let na : t ≡ actor e → ⊥ = λ p. c (or_l (eqb (actor e) t) (makes t e) (yes_eqb (sym p))) in
         let nm : T (makes t e) → ⊥ = λ p. c (or_r (eqb (actor e) t) (makes t e) p) in
         let known_t : Known k h t = elim (known_new k h e t q) [ inl m ↦ absurd (nm m) | inr r ↦ r ] in
         let still = now_other k lim h e t na nm in
@@ -405,24 +298,24 @@ module _ {C : Type 0} (k : CellKind C) (lim : ℕ) (laws : (limit : ℕ) (m : Or
               let up = subst₂ (Upto (e ∷ h)) (cond_eq i (length h) _ _ p) still u in
               elim (upto_case (e ∷ h) (event_step h e) (now h t) up) [
                 | inl z ↦ event_other h e s t known_t na z
-                | inr z ↦ event_last h e s (now h t) (same-T (before_kept k lim h e (event_step h e) (now h t) (now_lt k lim h t)) z)
+                | inr z ↦ event_last h e s (now h t) (subst T (before_kept k lim h e (event_step h e) (now h t) (now_lt k lim h t)) z)
               ])
           | inr n ↦ (
               let li : i < length h = omega arith in
               let up = subst₂ (Upto (e ∷ h)) (place_step_old k lim h e i li) still u in
-              let v = b.through t i known_t li (same-T (upto_kept k lim h e (place_step h i) (now h t) (now_lt k lim h t)) up) in
+              let v = b.through t i known_t li (subst T (upto_kept k lim h e (place_step h i) (now h t) (now_lt k lim h t)) up) in
               let lv = at_lt h v.0 v.1 v.2 in (
                 v.0,
                 v.1,
                 at_old h e v.0 lv ∙ v.2,
                 v.3,
-                same-T (ap (λ z. eqb i v.0 || z) (sym (before_old h e i v.0 lv))) v.4,
+                subst T (ap (λ z. eqb i v.0 || z) (sym (before_old h e i v.0 lv))) v.4,
               ))
         ])
   ]
     where
       mine : T (eqb (actor e) t || makes t e) → (t ≡ actor e) ⊎ T (makes t e)
-      mine c = elim (or_of (eqb (actor e) t) (makes t e) c) [ inl z ↦ inl (sym (eqb→eq (actor e) t z)) | inr z ↦ inr z ]
+      mine c = grind (arith, nat_tests)
 
   ordered_next : (h : Past C) (e : Event C) → Sound k (e ∷ h) → Tells h → (i j : ℕ) → i < suc (length h) → j < suc (length h)
       → StepBefore (e ∷ h) (place_step (e ∷ h) i) (place_step (e ∷ h) j) → T (before (e ∷ h) i j)
@@ -430,24 +323,9 @@ module _ {C : Type 0} (k : CellKind C) (lim : ℕ) (laws : (limit : ℕ) (m : Or
     | inl pj ↦ elim (cases_eq i (length h)) [
       | inl pi ↦ absurd (before_irrefl (e ∷ h) s (place_step (e ∷ h) j)
           (subst (λ x. StepBefore (e ∷ h) (place_step (e ∷ h) x) (place_step (e ∷ h) j)) (pi ∙ sym pj) q))
-      | inr ni ↦ (
-          let l : i < length h = omega arith in
-          let q' = subst₂ (StepBefore (e ∷ h)) (place_step_old k lim h e i l) (cond_eq j (length h) _ _ pj) q in
-          let leading = upto_lead h e s b i l (upto_before (e ∷ h) (place_step h i) (event_step h e) q') in
-          subst (λ x. T (before (e ∷ h) i x)) (sym pj) (lead_before h e i leading))
+      | inr ni ↦ grind (arith, nat_tests, upto_lead, upto_before, place_step, event_step, lead_before)
     ]
-    | inr nj ↦ (
-        let l : j < length h = omega arith in
-        let held = before_kept k lim h e (place_step (e ∷ h) i) (place_step h j) (place_step_lt k lim h j l) in
-        let q' = same-T held (subst (λ y. StepBefore (e ∷ h) (place_step (e ∷ h) i) y) (place_step_old k lim h e j l) q) in
-        elim (cases_eq i (length h)) [
-          | inl pi ↦ absurd (event_last h e s (place_step h j)
-              (subst (λ x. StepBefore h x (place_step h j)) (cond_eq i (length h) _ _ pi) q'))
-          | inr ni ↦ (
-              let l' : i < length h = omega arith in
-              same-T (sym (before_old h e i j l))
-              (b.ordered i j l' l (subst (λ x. StepBefore h x (place_step h j)) (place_step_old k lim h e i l') q')))
-        ])
+    | inr nj ↦ grind (arith, nat_tests, before_kept, place_step_lt, place_step_old, event_last, before_old)
   ]
 
   told : (h : Past C) → Sound k h → Tells h
@@ -467,7 +345,4 @@ module _ {C : Type 0} (k : CellKind C) (lim : ℕ) (laws : (limit : ℕ) (m : Or
   -- of two places the first is before the second if its step is up to the second's
   pub upto_places : (h : Past C) → Sound k h → (i j : ℕ) → i < j → j < length h → Upto h (place_step h i) (place_step h j)
       → T (before h i j)
-  upto_places h s i j l m u = elim (upto_case h (place_step h i) (place_step h j) u) [
-    | inl p ↦ same_step h s i j l m p
-    | inr q ↦ steps_before h s i j (omega arith) m q
-  ]
+  upto_places h s i j l m u = grind (arith, nat_tests, same_step, steps_before)

@@ -1,5 +1,8 @@
 -- The steps of a task and of all that it spawned stand together in serial order.
-use Rattle.std.proofs.Common.{◌≡◌, ℕ, ◌+◌, ◌<◌, ◌≤◌, Bool, cond, ◌||◌, T, eqb, ◌⊎◌, [], ◌∷◌, length, Some, sym, refl, ap, ◌∙◌, subst, subst₂, inl, inr, arith, eqb→eq}
+use Rattle.std.proofs.lemmas.Float.{T_from_true}
+use Rattle.std.proofs.Math.Facts.{yes_eqb}
+use Rattle.std.proofs.lemmas.Bool.Decides.{nat_tests}
+use Rattle.std.proofs.Common.{◌≡◌, ℕ, ◌+◌, ◌<◌, ◌≤◌, Bool, cond, ◌||◌, T, eqb, ◌⊎◌, [], ◌∷◌, length, Some, sym, refl, ap, ◌∙◌, subst, subst₂, inl, inr, arith}
 use lib.Dec.{eqb_refl}
 use Rattle.std.proofs.lemmas.Bool.{cases_eq}
 use Rattle.model.specs.declared.Event.{Event}
@@ -9,9 +12,9 @@ use Rattle.model.specs.Cells.{CellKind}
 use Rattle.model.specs.Orders.{Order, earlier_with}
 use Rattle.model.specs.Reached.{Reached, OrderLaws}
 use Rattle.model.specs.Link.{number}
-use Rattle.model.proofs.Shelf.Tests.{or_l, or_r, or_of, tried, same-T, from_true, eqb_in, cond_eq, cond_ne, none_some}
+use Rattle.model.proofs.Shelf.Tests.{or_l, or_r, tried, cond_eq, cond_ne}
 use Rattle.model.proofs.Shelf.Places.{at_old, at_lt, at_case}
-use Rattle.model.proofs.Readers.Sound.{Known, Good, Sound, stale, known_old, known_new, actor_known, child_known}
+use Rattle.model.proofs.Readers.Sound.{Known, Good, Sound, stale, known_new, actor_known, child_known}
 use Rattle.model.proofs.Readers.Keeper.{known_in}
 use Rattle.model.proofs.Readers.Labels.{current_is, now_child, now_parent, now_open, now_close, now_end, now_other, now_lt}
 use Rattle.model.proofs.Readers.Labels.{spawn_new}
@@ -34,12 +37,8 @@ module _ {C : Type 0} where
 
   -- a task that an event does not make stays below what it was below
   subtree_old : (h : Past C) (e : Event C) (u w : ℕ) → (T (makes w e) → ⊥) → subtree (e ∷ h) u w ≡ subtree h u w
-  subtree_old h (Spawn a v) u w n = cond_ne w v _ _ (λ p. n (eqb_in w v p))
-  subtree_old h (End a) u w n = refl
-  subtree_old h (Open a) u w n = refl
-  subtree_old h (Close a) u w n = refl
-  subtree_old h (Read a c) u w n = refl
-  subtree_old h (Write a c) u w n = refl
+  subtree_old h (Spawn a v) u w n = grind arith
+  subtree_old h e u w n = grind arith
 
   -- the task that a spawn makes, and any other
   subtree_made : (h : Past C) (a v u w : ℕ) → w ≡ v → subtree (Spawn a v ∷ h) u w ≡ (eqb u v || subtree h u a)
@@ -50,72 +49,31 @@ module _ {C : Type 0} where
 
   pub subtree_refl : (h : Past C) (u : ℕ) → T (subtree h u u)
   subtree_refl [] u = eqb_refl u
-  subtree_refl (Spawn a v ∷ h) u = elim (cases_eq u v) [
-    | inl p ↦ same-T (sym (subtree_made h a v u u p)) (or_l (eqb u v) (subtree h u a) (eqb_in u v p))
-    | inr n ↦ same-T (sym (subtree_other h a v u u n)) (subtree_refl h u)
-  ]
-  subtree_refl (End a ∷ h) u = subtree_refl h u
-  subtree_refl (Open a ∷ h) u = subtree_refl h u
-  subtree_refl (Close a ∷ h) u = subtree_refl h u
-  subtree_refl (Read a c ∷ h) u = subtree_refl h u
-  subtree_refl (Write a c ∷ h) u = subtree_refl h u
+  subtree_refl (Spawn a v ∷ h) u = grind (arith, nat_tests, subtree_refl h)
+  subtree_refl (e ∷ h) u = grind (arith, subtree_refl h)
 
 module _ {C : Type 0} (k : CellKind C) where
   -- what a known task is below is known
   subtree_known : (h : Past C) → Sound k h → (u w : ℕ) → Known k h w → T (subtree h u w) → Known k h u
-  subtree_known [] s u w q b = subst (λ x. Known k [] x) (sym (eqb→eq u w b)) q
-  subtree_known (Spawn a v ∷ h) s u w q b = elim (cases_eq w v) [
-    | inl p ↦ elim (or_of (eqb u v) (subtree h u a) (same-T (subtree_made h a v u w p) b)) [
-      | inl z ↦ subst (λ x. Known k (Spawn a v ∷ h) x) (p ∙ sym (eqb→eq u v z)) q
-      | inr z ↦ known_old k h (Spawn a v) u (subtree_known h s.1 u a s.0.is_known z)
-    ]
-    | inr n ↦ known_old k h (Spawn a v) u
-        (subtree_known h s.1 u w (known_in k 0 h a v w q n) (same-T (subtree_other h a v u w n) b))
-  ]
-  subtree_known (End a ∷ h) s u w q b = subtree_known h s.1 u w q b
-  subtree_known (Open a ∷ h) s u w q b = subtree_known h s.1 u w q b
-  subtree_known (Close a ∷ h) s u w q b = subtree_known h s.1 u w q b
-  subtree_known (Read a c ∷ h) s u w q b = subtree_known h s.1 u w q b
-  subtree_known (Write a c ∷ h) s u w q b = subtree_known h s.1 u w q b
+  subtree_known [] s u w q b = grind arith
+  subtree_known (Spawn a v ∷ h) s u w q b = grind (arith, nat_tests, subtree_known h)
+  subtree_known (e ∷ h) s u w q b = grind (arith, nat_tests, subtree_known h)
 
   pub subtree_trans : (h : Past C) → Sound k h → (u v w : ℕ) → Known k h w → T (subtree h u v) → T (subtree h v w) → T (subtree h u w)
-  subtree_trans [] s u v w q a b = subst (λ x. T (eqb u x)) (eqb→eq v w b) a
-  subtree_trans (Spawn a z ∷ h) s u v w q x y = elim (cases_eq w z) [
-    | inl p ↦ elim (or_of (eqb v z) (subtree h v a) (same-T (subtree_made h a z v w p) y)) [
-      | inl vz ↦ subst (λ o. T (subtree (Spawn a z ∷ h) u o)) (eqb→eq v z vz ∙ sym p) x
-      | inr va ↦ (
-          let kv = subtree_known h s.1 v a s.0.is_known va in
-          let nz : v ≡ z → ⊥ = λ o. s.0.extra (subst (λ t. Known k h t) o kv) in
-          let uv : T (subtree h u v) = same-T (subtree_other h a z u v nz) x in
-          same-T (sym (subtree_made h a z u w p))
-          (or_r (eqb u z) (subtree h u a) (subtree_trans h s.1 u v a s.0.is_known uv va)))
-    ]
-    | inr n ↦ (
-        let kw = known_in k 0 h a z w q n in
-        let vw : T (subtree h v w) = same-T (subtree_other h a z v w n) y in
-        let kv = subtree_known h s.1 v w kw vw in
-        let nz : v ≡ z → ⊥ = λ o. s.0.extra (subst (λ t. Known k h t) o kv) in
-        let uv : T (subtree h u v) = same-T (subtree_other h a z u v nz) x in
-        same-T (sym (subtree_other h a z u w n)) (subtree_trans h s.1 u v w kw uv vw))
-  ]
-  subtree_trans (End a ∷ h) s u v w q x y = subtree_trans h s.1 u v w q x y
-  subtree_trans (Open a ∷ h) s u v w q x y = subtree_trans h s.1 u v w q x y
-  subtree_trans (Close a ∷ h) s u v w q x y = subtree_trans h s.1 u v w q x y
-  subtree_trans (Read a c ∷ h) s u v w q x y = subtree_trans h s.1 u v w q x y
-  subtree_trans (Write a c ∷ h) s u v w q x y = subtree_trans h s.1 u v w q x y
+  subtree_trans [] s u v w q a b = grind arith
+  subtree_trans (Spawn a z ∷ h) s u v w q x y = grind (arith, nat_tests, subtree_trans h, subtree_made, subtree_known, subtree_other, known_in)
+  subtree_trans (e ∷ h) s u v w q x y = grind (arith, nat_tests, subtree_trans h)
 
   subtree_spawn : (h : Past C) (e : Event C) (a v : ℕ) → e ≡ Spawn a v → T (subtree (e ∷ h) a v)
-  subtree_spawn h e a v p =
-      subst (λ x. T (subtree (x ∷ h) a v)) (sym p)
-      (same-T (sym (subtree_made h a v a v refl)) (or_r (eqb a v) (subtree h a a) (subtree_refl h a)))
+  subtree_spawn h e a v p = grind (arith, nat_tests, subtree_refl)
 
   pub subtree_child : (h : Past C) → Sound k h → (i a v : ℕ) → at h i ≡ Some (Spawn a v) → T (subtree h a v)
-  subtree_child [] s i a v q = none_some q
+  subtree_child [] s i a v q = cc
   subtree_child (e ∷ h) s i a v q = elim (at_case h e i (Spawn a v) q) [
     | inl r ↦ subtree_spawn h e a v r.1
     | inr r ↦ (
         let known_v = child_known k h i (Spawn a v) v r.1 (eqb_refl v) in
-        same-T (sym (subtree_old h e a v (stale k h e s.0 v known_v))) (subtree_child h s.1 i a v r.1))
+        subst T (sym (subtree_old h e a v (stale k h e s.0 v known_v))) (subtree_child h s.1 i a v r.1))
   ]
 
 module _ {C : Type 0} (k : CellKind C) (lim : ℕ) (laws : (limit : ℕ) (m : Order) → Reached limit m → OrderLaws m) where
@@ -129,85 +87,34 @@ module _ {C : Type 0} (k : CellKind C) (lim : ℕ) (laws : (limit : ℕ) (m : Or
   earlier_eq : (h : Past C) (e : Event C) (x y : ℕ) → x < (keeper h).steps → y < (keeper h).steps → (x ≡ y → ⊥)
       → (keeper (e ∷ h)).earlier x y ≡ (keeper h).earlier x y
   earlier_eq h (Spawn a u) x y p q n = with_old (keeper h) ((keeper h).task (number h a)).current 2 x y p q n
-  earlier_eq h (End a) x y p q n = refl
-  earlier_eq h (Open a) x y p q n = with_old (keeper h) ((keeper h).task (number h a)).current 1 x y p q n
-  earlier_eq h (Close a) x y p q n = with_old (keeper h) ((keeper h).task (number h a)).current 1 x y p q n
-  earlier_eq h (Read a c) x y p q n = refl
-  earlier_eq h (Write a c) x y p q n = refl
+  earlier_eq h e x y p q n = grind arith
 
   pub earlier_up : (h : Past C) (e : Event C) → Sound k h → (x y : ℕ) → StepEarlier h x y → StepEarlier (e ∷ h) x y
-  earlier_up h e s x y b =
-      let r = (law h s).earlier_held x y b in
-      same-T (sym (earlier_eq h e x y r.0 r.1 (λ p. (law h s).earlier_irrefl y (subst (λ z. StepEarlier h z y) p b)))) b
+  earlier_up h e s x y b = grind (arith, nat_tests, law, earlier_eq)
 
   -- one of the new steps that stand where the task's step stood
   new_one : (h : Past C) → Sound k h → (a y new n : ℕ) → Known k h a → (keeper h).steps ≤ n → n < (keeper h).steps + new
       → StepEarlier h (now h a) y → T (earlier_with (keeper h) ((keeper h).task (number h a)).current new n y)
-  new_one h s a y new n kn lo hi b =
-      let cur = current_is k lim h s a kn in
-      let r = (law h s).earlier_held (now h a) y b in
-      let c = ((keeper h).task (number h a)).current in
-      let b₀ : StepEarlier h c y = subst (λ z. StepEarlier h z y) (sym cur) b in
-      let ne : c ≡ y → ⊥ = λ p. (law h s).earlier_irrefl y (subst (λ z. StepEarlier h z y) p b₀) in
-      same-T (sym (with_new (keeper h) c new n y lo hi (omega arith) r.1 ne)) b₀
+  new_one h s a y new n kn lo hi b = grind (arith, nat_tests, current_is, law, with_new, new)
 
   -- a new step of the event's task, or of the task that it makes, is earlier than y if the task's step was
   new_earlier : (h : Past C) (e : Event C) → Sound k (e ∷ h) → (t y : ℕ) → (t ≡ actor e) ⊎ T (makes t e)
       → StepEarlier h (now h (actor e)) y
       → StepEarlier (e ∷ h) (now (e ∷ h) t) y
-  new_earlier h (Spawn a u) s t y c b = elim (cases_eq t u) [
-    | inl p ↦ (
-        let n = now_child k lim h a u t p in
-        new_one h s.1 a y 2 (now (Spawn a u ∷ h) t) s.0.is_known (omega arith) (omega arith) b)
-    | inr d ↦ elim c [
-      | inl p ↦ (
-          let n = now_parent k lim h a u t d p in
-          new_one h s.1 a y 2 (now (Spawn a u ∷ h) t) s.0.is_known (omega arith) (omega arith) b)
-      | inr m ↦ absurd (d (eqb→eq t u m))
-    ]
-  ]
-  new_earlier h (End a) s t y c b = elim c [
-    | inl p ↦ subst (λ z. StepEarlier h z y) (sym (now_end k lim h a t ∙ ap (now h) p)) b
-    | inr m ↦ absurd m
-  ]
-  new_earlier h (Open a) s t y c b = elim c [
-    | inl p ↦ (
-        let n = now_open k lim h a t p in
-        new_one h s.1 a y 1 (now (Open a ∷ h) t) s.0.is_known (omega arith) (omega arith) b)
-    | inr m ↦ absurd m
-  ]
-  new_earlier h (Close a) s t y c b = elim c [
-    | inl p ↦ (
-        let n = now_close k lim h a t p in
-        new_one h s.1 a y 1 (now (Close a ∷ h) t) s.0.is_known (omega arith) (omega arith) b)
-    | inr m ↦ absurd m
-  ]
-  new_earlier h (Read a c') s t y c b = elim c [ inl p ↦ subst (λ z. StepEarlier h (now h z) y) (sym p) b | inr m ↦ absurd m ]
-  new_earlier h (Write a c') s t y c b = elim c [ inl p ↦ subst (λ z. StepEarlier h (now h z) y) (sym p) b | inr m ↦ absurd m ]
+  new_earlier h (Spawn a u) s t y c b = grind (arith, nat_tests, new_one, now_parent)
+  new_earlier h e s t y c b = grind (arith, nat_tests, new_one, now_parent, now_end, now_open, now_close)
 
   -- the step of the event's task is up to the new one, of the task or of its child
   own_moved : (h : Past C) (e : Event C) → Sound k (e ∷ h) → (t : ℕ) → t ≡ actor e → Upto (e ∷ h) (now h (actor e)) (now (e ∷ h) t)
-  own_moved h e s t p =
-      subst (λ z. Upto (e ∷ h) (now h (actor e)) (now (e ∷ h) z)) (sym p) (now_grows k lim laws h e s (actor e) s.0.is_known)
+  own_moved h e s t p = grind (arith, nat_tests, now_grows k lim laws)
 
   moved_on : (h : Past C) (e : Event C) → Sound k (e ∷ h) → (t : ℕ) → (t ≡ actor e) ⊎ T (makes t e)
       → Upto (e ∷ h) (now h (actor e)) (now (e ∷ h) t)
-  moved_on h (Spawn a u) s t c = elim (cases_eq t u) [
-    | inl p ↦ spawn_upto k lim laws h a u s (now h a) (now (Spawn a u ∷ h) t) (inl (now_child k lim h a u t p))
-        (upto_refl k lim laws h (now h a) (now h a) refl)
-    | inr n ↦ elim c [ inl p ↦ own_moved h (Spawn a u) s t p | inr m ↦ absurd (n (eqb→eq t u m)) ]
-  ]
-  moved_on h (End a) s t c = elim c [ inl p ↦ own_moved h (End a) s t p | inr m ↦ absurd m ]
-  moved_on h (Open a) s t c = elim c [ inl p ↦ own_moved h (Open a) s t p | inr m ↦ absurd m ]
-  moved_on h (Close a) s t c = elim c [ inl p ↦ own_moved h (Close a) s t p | inr m ↦ absurd m ]
-  moved_on h (Read a c') s t c = elim c [ inl p ↦ own_moved h (Read a c') s t p | inr m ↦ absurd m ]
-  moved_on h (Write a c') s t c = elim c [ inl p ↦ own_moved h (Write a c') s t p | inr m ↦ absurd m ]
+  moved_on h (Spawn a u) s t c = grind (arith, nat_tests, spawn_upto k lim laws, now_child k lim, upto_refl k lim laws)
+  moved_on h e s t c = elim c [ inl p ↦ own_moved h e s t p | inr m ↦ absurd m ]
 
   pub earlier_upto : (h : Past C) → Sound k h → (x y z : ℕ) → StepEarlier h x y → Upto h y z → StepEarlier h x z
-  earlier_upto h s x y z a b = elim (upto_case k lim laws h y z b) [
-    | inl p ↦ subst (λ w. StepEarlier h x w) p a
-    | inr q ↦ (law h s).earlier_trans x y z a ((law h s).before_earlier y z q)
-  ]
+  earlier_upto h s x y z a b = grind (arith, nat_tests, law)
 
   -- the step x stands between the steps lo and hi
   abbrev Between : Past C → ℕ → ℕ → ℕ → Type 0
@@ -221,8 +128,7 @@ module _ {C : Type 0} (k : CellKind C) (lim : ℕ) (laws : (limit : ℕ) (m : Or
   Within h p x = Between h (done_on h p) (goes_on h p) x
 
   within_old : (h : Past C) (e : Event C) (p x : ℕ) → p < length h → Between (e ∷ h) (done_on h p) (goes_on h p) x → Within (e ∷ h) p x
-  within_old h e p x l b =
-      subst₂ (λ lo hi. Between (e ∷ h) lo hi x) (sym (done_on_old k lim h e p l)) (sym (goes_on_old k lim h e p l)) b
+  within_old h e p x l b = grind arith
 
   -- the new spawn itself: the task that it makes
   within_spawn : (h : Past C) (p t u w : ℕ) → p ≡ length h → Sound k (Spawn t u ∷ h) → Known k (Spawn t u ∷ h) w
@@ -233,13 +139,13 @@ module _ {C : Type 0} (k : CellKind C) (lim : ℕ) (laws : (limit : ℕ) (m : Or
         let n = now_child k lim h t u w z in
         let c = ((keeper h).task (number h t)).current in
         let one : StepBefore h' (now h t) (now h' w) =
-        same-T (sym (spawn_new k lim h s.1 t u s.0.is_known (now h t) (now h' w) (inl n)))
+        subst T (sym (spawn_new k lim h s.1 t u s.0.is_known (now h t) (now h' w) (inl n)))
         (upto_refl k lim laws h (now h t) (now h t) refl) in
         let two : StepEarlier h' (now h' w) ((keeper h).steps + 1) =
-        from_true (with_both (keeper h) c 2 (now h' w) ((keeper h).steps + 1) (omega arith) (omega arith) (omega arith)) in
+        T_from_true _ (with_both (keeper h) c 2 (now h' w) ((keeper h).steps + 1) (omega arith) (omega arith) (omega arith)) in
         subst₂ (λ lo hi. Between h' lo hi (now h' w)) (sym (cond_eq p (length h) _ _ pl)) (sym (cond_eq p (length h) _ _ pl))
         ((law h' s).before_earlier (now h t) (now h' w) one, two))
-    | inr n ↦ absurd (s.0.extra (subtree_known k h s.1 u w (known_in k lim h t u w kw n) (same-T (subtree_other h t u u w n) b)))
+    | inr n ↦ grind (arith, nat_tests, subtree_known, known_in, subtree_other)
   ]
 
   within_top : (h : Past C) (e : Event C) → Sound k (e ∷ h) → (p t u w : ℕ) → p ≡ length h → e ≡ Spawn t u → Known k (e ∷ h) w
@@ -252,26 +158,13 @@ module _ {C : Type 0} (k : CellKind C) (lim : ℕ) (laws : (limit : ℕ) (m : Or
   -- where an event moves or makes a task below u, its own task was below u
   below_actor : (h : Past C) (e : Event C) (u w : ℕ) → Good k h e → Known k h u → (w ≡ actor e) ⊎ T (makes w e) → T (subtree (e ∷ h) u w)
       → T (subtree h u (actor e))
-  below_actor h (Spawn a v) u w g ku c b = elim (cases_eq w v) [
-    | inl z ↦ elim (or_of (eqb u v) (subtree h u a) (same-T (subtree_made h a v u w z) b)) [
-      | inl y ↦ absurd (g.extra (subst (λ x. Known k h x) (eqb→eq u v y) ku))
-      | inr y ↦ y
-    ]
-    | inr n ↦ elim c [
-      | inl z ↦ subst (λ x. T (subtree h u x)) z (same-T (subtree_other h a v u w n) b)
-      | inr m ↦ absurd (n (eqb→eq w v m))
-    ]
-  ]
-  below_actor h (End a) u w g ku c b = elim c [ inl z ↦ subst (λ x. T (subtree h u x)) z b | inr m ↦ absurd m ]
-  below_actor h (Open a) u w g ku c b = elim c [ inl z ↦ subst (λ x. T (subtree h u x)) z b | inr m ↦ absurd m ]
-  below_actor h (Close a) u w g ku c b = elim c [ inl z ↦ subst (λ x. T (subtree h u x)) z b | inr m ↦ absurd m ]
-  below_actor h (Read a c') u w g ku c b = elim c [ inl z ↦ subst (λ x. T (subtree h u x)) z b | inr m ↦ absurd m ]
-  below_actor h (Write a c') u w g ku c b = elim c [ inl z ↦ subst (λ x. T (subtree h u x)) z b | inr m ↦ absurd m ]
+  below_actor h (Spawn a v) u w g ku c b = grind arith
+  below_actor h e u w g ku c b = grind arith
 
   -- every task below the one that a spawn made is on a step between the spawn's and the one its task goes on with
   within_now : (h : Past C) → Sound k h → (p t u w : ℕ) → at h p ≡ Some (Spawn t u) → Known k h w → T (subtree h u w)
       → Within h p (now h w)
-  within_now [] s p t u w q kw b = none_some q
+  within_now [] s p t u w q kw b = cc
   within_now (e ∷ h) s p t u w q kw b = elim (at_case h e p (Spawn t u) q) [
     | inl r ↦ within_top h e s p t u w r.0 r.1 kw b
     | inr r ↦ within_old h e p (now (e ∷ h) w) r.0 (elim (tried (eqb w (actor e) || makes w e)) [
@@ -283,31 +176,30 @@ module _ {C : Type 0} (k : CellKind C) (lim : ℕ) (laws : (limit : ℕ) (m : Or
             new_earlier h e s w (goes_on h p) (mine c) i.1,
           ))
       | inr c ↦ (
-          let na : w ≡ actor e → ⊥ = λ z. c (or_l (eqb w (actor e)) (makes w e) (eqb_in w (actor e) z)) in
+          let na : w ≡ actor e → ⊥ = λ z. c (or_l (eqb w (actor e)) (makes w e) (yes_eqb z)) in
           let nm : T (makes w e) → ⊥ = λ z. c (or_r (eqb w (actor e)) (makes w e) z) in
           let known_w : Known k h w = elim (known_new k h e w kw) [ inl m ↦ absurd (nm m) | inr z ↦ z ] in
-          let i = within_now h s.1 p t u w r.1 known_w (same-T (subtree_old h e u w nm) b) in
+          let i = within_now h s.1 p t u w r.1 known_w (subst T (subtree_old h e u w nm) b) in
           subst (Between (e ∷ h) (done_on h p) (goes_on h p)) (sym (now_other k lim h e w na nm))
           (between_up h e s.1 (done_on h p) (goes_on h p) (now h w) i))
     ])
   ]
     where
       mine : T (eqb w (actor e) || makes w e) → (w ≡ actor e) ⊎ T (makes w e)
-      mine c = elim (or_of (eqb w (actor e)) (makes w e) c) [ inl z ↦ inl (eqb→eq w (actor e) z) | inr z ↦ inr z ]
+      mine c = grind arith
 
   -- and so is every event of such a task
   pub within_at : (h : Past C) → Sound k h → (p t u x : ℕ) (d : Event C) → at h p ≡ Some (Spawn t u) → at h x ≡ Some d
       → T (subtree h u (actor d)) → Within h p (done_on h x)
-  within_at [] s p t u x d q r b = none_some q
+  within_at [] s p t u x d q r b = cc
   within_at (e ∷ h) s p t u x d q r b =
       let known_d : Known k h (actor d) = elim (at_case h e x d r) [
         | inl z ↦ subst (λ y. Known k h (actor y)) z.1 s.0.is_known
         | inr z ↦ actor_known k h s.1 x d z.1
       ] in
-      let below_d = same-T (subtree_old h e u (actor d) (stale k h e s.0 (actor d) known_d)) b in
+      let below_d = subst T (subtree_old h e u (actor d) (stale k h e s.0 (actor d) known_d)) b in
       elim (at_case h e p (Spawn t u) q) [
-        | inl v ↦ absurd (stale k h e s.0 u (subtree_known k h s.1 u (actor d) known_d below_d)
-            (subst (λ y. T (makes u y)) (sym v.1) (eqb_refl u)))
+        | inl v ↦ grind (arith, nat_tests, subtree_known)
         | inr v ↦ within_old h e p (done_on (e ∷ h) x) v.0 (elim (at_case h e x d r) [
           | inl z ↦ (
               let below_e : T (subtree h u (actor e)) = subst (λ y. T (subtree h u (actor y))) (sym z.1) below_d in
@@ -323,10 +215,9 @@ module _ {C : Type 0} (k : CellKind C) (lim : ℕ) (laws : (limit : ℕ) (m : Or
 
   -- a task's events go on from step to step
   done_on_now : (h : Past C) → Sound k h → (i : ℕ) (d : Event C) → at h i ≡ Some d → Upto h (done_on h i) (now h (actor d))
-  done_on_now [] s i d q = none_some q
+  done_on_now [] s i d q = cc
   done_on_now (e ∷ h) s i d q = elim (at_case h e i d q) [
-    | inl r ↦ subst (λ x. Upto (e ∷ h) x (now (e ∷ h) (actor d))) (sym (cond_eq i (length h) _ _ r.0))
-        (subst (λ y. Upto (e ∷ h) (now h (actor e)) (now (e ∷ h) (actor y))) r.1 (now_grows k lim laws h e s (actor e) s.0.is_known))
+    | inl r ↦ grind (arith, nat_tests, now_grows k lim laws)
     | inr r ↦ subst (λ x. Upto (e ∷ h) x (now (e ∷ h) (actor d))) (sym (done_on_old k lim h e i r.0))
         (upto_trans k lim laws (e ∷ h) s (done_on h i) (now h (actor d)) (now (e ∷ h) (actor d))
         (upto_new k lim laws h e (done_on h i) (now h (actor d)) (done_on_now h s.1 i d r.1) (now_lt k lim h (actor d)))
@@ -335,32 +226,18 @@ module _ {C : Type 0} (k : CellKind C) (lim : ℕ) (laws : (limit : ℕ) (m : Or
 
   pub done_on_task : (h : Past C) → Sound k h → (i j : ℕ) (d e : Event C) → i < j → at h i ≡ Some d → at h j ≡ Some e → actor d ≡ actor e
       → Upto h (done_on h i) (done_on h j)
-  done_on_task [] s i j d f l p q a = none_some p
+  done_on_task [] s i j d f l p q a = cc
   done_on_task (e ∷ h) s i j d f l p q a =
       let lj = at_lt (e ∷ h) j f q in
       let li : i < length h = omega arith in
       let p' = sym (at_old h e i li) ∙ p in
-      subst (λ x. Upto (e ∷ h) x (done_on (e ∷ h) j)) (sym (done_on_old k lim h e i li)) (elim (at_case h e j f q) [
-        | inl r ↦ subst (λ x. Upto (e ∷ h) (done_on h i) x) (sym (cond_eq j (length h) _ _ r.0))
-            (subst (λ x. Upto (e ∷ h) (done_on h i) (now h x)) (a ∙ sym (ap actor r.1))
-            (upto_new k lim laws h e (done_on h i) (now h (actor d)) (done_on_now h s.1 i d p') (now_lt k lim h (actor d))))
-        | inr r ↦ subst (λ x. Upto (e ∷ h) (done_on h i) x) (sym (done_on_old k lim h e j r.0))
-            (upto_new k lim laws h e (done_on h i) (done_on h j)
-            (done_on_task h s.1 i j d f l p' r.1 a) (done_on_lt k lim h j r.0))
-      ])
-
-  goes_on_top : (h : Past C) (e : Event C) → Sound k (e ∷ h) → (t u : ℕ) → e ≡ Spawn t u → (keeper h).steps + 1 ≡ now (e ∷ h) t
-  goes_on_top h e s t u p =
-      let g : Good k h (Spawn t u) = subst (λ x. Good k h x) p s.0 in
-      subst (λ x. (keeper h).steps + 1 ≡ now (x ∷ h) t) (sym p)
-      (sym (now_parent k lim h t u t (λ z. g.extra (subst (λ y. Known k h y) z g.is_known)) refl))
+      grind (arith, nat_tests, done_on_task h, done_on_old k lim, at_case, upto_new k lim laws, done_on_now, now_lt k lim, done_on_lt k lim)
 
   -- the step that a spawner goes on with is up to its current one
   goes_on_now : (h : Past C) → Sound k h → (p t u : ℕ) → at h p ≡ Some (Spawn t u) → Upto h (goes_on h p) (now h t)
-  goes_on_now [] s p t u q = none_some q
+  goes_on_now [] s p t u q = cc
   goes_on_now (e ∷ h) s p t u q = elim (at_case h e p (Spawn t u) q) [
-    | inl r ↦ upto_refl k lim laws (e ∷ h) (goes_on (e ∷ h) p) (now (e ∷ h) t)
-        (cond_eq p (length h) _ _ r.0 ∙ goes_on_top h e s t u r.1)
+    | inl r ↦ grind arith
     | inr r ↦ subst (λ x. Upto (e ∷ h) x (now (e ∷ h) t)) (sym (goes_on_old k lim h e p r.0))
         (upto_trans k lim laws (e ∷ h) s (goes_on h p) (now h t) (now (e ∷ h) t)
         (upto_new k lim laws h e (goes_on h p) (now h t) (goes_on_now h s.1 p t u r.1) (now_lt k lim h t))
@@ -371,7 +248,7 @@ module _ {C : Type 0} (k : CellKind C) (lim : ℕ) (laws : (limit : ℕ) (m : Or
   pub goes_on_task : (h : Past C) → Sound k h → (p t u j : ℕ) (d : Event C) → p < j → at h p ≡ Some (Spawn t u) → at h j ≡ Some d
       → actor d ≡ t
       → Upto h (goes_on h p) (done_on h j)
-  goes_on_task [] s p t u j d l q r a = none_some q
+  goes_on_task [] s p t u j d l q r a = cc
   goes_on_task (e ∷ h) s p t u j d l q r a =
       let lj = at_lt (e ∷ h) j d r in
       let lp : p < length h = omega arith in

@@ -1,5 +1,7 @@
 -- Every legal order of a clean past's events is clean.
-use Rattle.std.proofs.Common.{◌≡◌, ℕ, suc, ◌+◌, ◌<◌, ◌≤◌, cond, not, ◌&&◌, ◌||◌, T, eqb, ltb, leb, List, [], ◌∷◌, length, Some, None, sym, refl, ap, ◌∙◌, subst, inl, inr, arith, T_not}
+use Rattle.std.proofs.Math.Facts.{or_yes, and_yes}
+use Rattle.std.proofs.lemmas.Bool.Decides.{nat_tests}
+use Rattle.std.proofs.Common.{◌≡◌, ℕ, suc, ◌+◌, ◌<◌, ◌≤◌, cond, not, ◌&&◌, T, eqb, ltb, leb, List, [], ◌∷◌, length, Some, None, sym, refl, ap, ◌∙◌, subst, inl, inr, arith, T_not}
 use lib.Dec.{eqb_refl}
 use Rattle.model.specs.declared.Event.{Event}
 use Rattle.model.specs.declared.Event.TheVariants.{Spawn, End, Open, Close, Read, Write}
@@ -10,7 +12,7 @@ use Rattle.model.specs.Cells.{CellKind, cell_held, cells_held, cell_of, accesses
 use Rattle.model.specs.Rules.{Limits, taken, judge, steps_held, steps_of}
 use Rattle.model.specs.Legal.{Legal, arranged}
 use Rattle.model.specs.Laws.{Clean}
-use Rattle.model.proofs.Shelf.Tests.{or_l, or_r, or_of, and_l, and_r, cond_no}
+use Rattle.model.proofs.Shelf.Tests.{or_l, cond_no}
 use Rattle.model.proofs.Shelf.Lists.{mem_swap, mem_head}
 use Rattle.model.proofs.Shelf.Places.{at_some, any_at, at_any}
 use Rattle.model.proofs.Orderings.Rows.{apart_bound}
@@ -20,7 +22,7 @@ use Rattle.model.proofs.Readers.Sound.{Known, HasEnded, Sound, clean_sound, acto
 use Rattle.model.proofs.Reorderings.Parts.{Part, part_apart, part_inside, part_of_legal, part_early}
 use Rattle.model.proofs.Reorderings.Arranged.{arranged_cons, length_arranged, any_arranged, arranged_any}
 use Rattle.model.proofs.Reorderings.Arranged.{pos, pos_here, pos_there, pos_find}
-use Rattle.model.proofs.Reorderings.Facts.{no_leb, no_ltb, ends_is, same_before, makes_before, one_maker, passed_at}
+use Rattle.model.proofs.Reorderings.Facts.{ends_is, same_before, makes_before, one_maker, passed_at}
 use Rattle.model.proofs.Reorderings.Homes.{own_part}
 use Rattle.model.proofs.Reorderings.Transfer.{transfer}
 use Rattle.model.proofs.Reorderings.Cells.{cells_cover}
@@ -43,15 +45,15 @@ module _ {C : Type 0} (k : CellKind C) (l : Limits) (h : Past C) (cl : Clean k l
       let a = length_arranged h s P.3 in
       let b : length (i ∷ s) ≤ length h = apart_bound (length h) (i ∷ s) (part_apart h (i ∷ s) P) (part_inside h (i ∷ s) P) in
       let c = events_bound k l h cl in
-      no_leb l.events (length now) (omega arith)
+      grind arith
 
   known_now : (e : Event C) → at h i ≡ Some e → Known k now (actor e)
-  known_now e a = elim (or_of (eqb (actor e) 0) (made h (actor e)) (actor_known k h so i e a)) [
+  known_now e a = elim (or_yes (eqb (actor e) 0) (made h (actor e)) (actor_known k h so i e a)) [
     | inl z ↦ or_l (eqb (actor e) 0) (made now (actor e)) z
     | inr m ↦
         (let (q, c, b, x) = any_at (makes (actor e)) h m in
         let first = makes_before k h so q i c e b a x in
-        or_r (eqb (actor e) 0) (made now (actor e)) (arranged_any h (makes (actor e)) s P.3 q c (P.2 q first) b x))
+        grind (arith, nat_tests, now, arranged_any))
   ]
 
   not_over : (e : Event C) → at h i ≡ Some e → HasEnded k now (actor e) → ⊥
@@ -68,10 +70,10 @@ module _ {C : Type 0} (k : CellKind C) (l : Limits) (h : Past C) (cl : Clean k l
       let c : steps_held (arranged h (i ∷ s)) ≡ steps_of e + steps_held now = ap steps_held (arranged_cons h i s e a) in
       let d = steps_pos now in
       let f : steps_held h ≤ l.steps = elim (steps_bound k l h cl) [ inl x ↦ x | inr x ↦ absurd (omega arith) ] in
-      no_ltb l.steps (steps_held now + steps_of e) (omega arith)
+      grind arith
 
   new_task : (t u : ℕ) → at h i ≡ Some (Spawn t u) → Known k now u → ⊥
-  new_task t u a y = elim (or_of (eqb u 0) (made now u) y) [
+  new_task t u a y = elim (or_yes (eqb u 0) (made now u) y) [
     | inl z ↦ (passed_at k l h cl i (Spawn t u) a).1.0 (or_l (eqb u 0) (made (behind h i) u) z)
     | inr z ↦
         (let (q, c, m, b, x) = any_arranged h (makes u) s P.3 z in
@@ -84,7 +86,7 @@ module _ {C : Type 0} (k : CellKind C) (l : Limits) (h : Past C) (cl : Clean k l
       let c : length (spawned_tasks (arranged h (i ∷ s))) ≡ suc (length (spawned_tasks now)) =
       ap (λ g. length (spawned_tasks g)) (arranged_cons h i s (Spawn t u) a) in
       let d = names_bound k l h cl in
-      no_leb l.names (length (spawned_tasks now)) (omega arith)
+      grind arith
 
   -- a cell of the part is one of the past
   held_still : (c : C) → T (cell_held k (arranged h (i ∷ s)) c) → T (cell_held k h c)
@@ -93,14 +95,14 @@ module _ {C : Type 0} (k : CellKind C) (l : Limits) (h : Past C) (cl : Clean k l
   more_cells : (e : Event C) (c : C) → at h i ≡ Some e → cell_of e ≡ Some c
       → T (not (cell_held k now c) && leb l.cells (cells_held k now)) → ⊥
   more_cells e c a y z =
-      let n = T_not (cell_held k now c) (and_l (not (cell_held k now c)) (leb l.cells (cells_held k now)) z) in
+      let n = T_not (cell_held k now c) ((and_yes (not (cell_held k now c)) (leb l.cells (cells_held k now)) z).0) in
       let b = cells_cover k (arranged h (i ∷ s)) h held_still in
       let d : cells_held k (arranged h (i ∷ s)) ≡ 1 + cells_held k now =
       ap (cells_held k) (arranged_cons h i s e a)
       ∙ ap (λ o. some_or (λ x. cond (cell_held k now x) 0 1) 0 o + cells_held k now) y
       ∙ ap (λ x. x + cells_held k now) (cond_no (cell_held k now c) 0 1 n) in
       let f = cells_bound k l h cl in
-      no_leb l.cells (cells_held k now) (omega arith) (and_r (not (cell_held k now c)) (leb l.cells (cells_held k now)) z)
+      grind arith
 
   -- so no test passes of it
   kind_passes : (e : Event C) → at h i ≡ Some e → Pass (kind_tests k l now e)
@@ -119,8 +121,7 @@ module _ {C : Type 0} (k : CellKind C) (l : Limits) (h : Past C) (cl : Clean k l
   kind_passes (Write t c) a = (not_over (Write t c) a, (more_cells (Write t c) c a refl, tt))
 
   first_passes : (e : Event C) → at h i ≡ Some e → Pass (first_tests k l now e)
-  first_passes e a =
-      (room_left, ((passed_at k l h cl i e a).0.1.0, (λ z. T_not (eqb (actor e) 0 || made now (actor e)) z (known_now e a), tt)))
+  first_passes e a = grind (arith, nat_tests, room_left, passed_at k l h cl i, known_now)
 
 module _
     {C : Type 0} (k : CellKind C)
@@ -156,9 +157,7 @@ module _
 
     clean_part : (s : List ℕ) → Part h s → Clean k l (arranged h s)
     clean_part [] P = tt
-    clean_part (i ∷ s) P =
-        let r = at_some h i P.0 in
-        subst (Clean k l) (sym (arranged_cons h i s r.0 r.1)) (taken_on_part i s r.0 P r.1, clean_part s P.3)
+    clean_part (i ∷ s) P = grind (arith, nat_tests, clean_part s, at_some, arranged_cons, taken_on_part)
 
   pub clean_any_order : (l : Limits) (h : Past C) → Clean k l h → (o : List ℕ) → Legal h o → Clean k l (arranged h o)
   clean_any_order l h cl o L = clean_part l h cl o (part_of_legal h o L)

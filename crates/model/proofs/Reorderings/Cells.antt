@@ -1,11 +1,11 @@
 -- How many cells a list of them names: no more than any list that names them all.
-use Rattle.std.proofs.Common.{◌≡◌, ℕ, ◌+◌, ◌<◌, ◌≤◌, Bool, cond, not, ◌||◌, T, List, [], ◌∷◌, sym, refl, ap, ◌∙◌, subst, ap₂, inl, inr, zero-add, arith, T_not}
-use lib.Dec.{not_T}
-use Rattle.model.specs.declared.Event.TheVariants.{Spawn, End, Open, Close, Read, Write}
+use Rattle.std.proofs.lemmas.Bool.Decides.{nat_tests}
+use Rattle.std.proofs.Common.{◌≡◌, ℕ, ◌+◌, ◌<◌, ◌≤◌, Bool, cond, not, T, List, [], ◌∷◌, sym, refl, ◌∙◌, subst, inl, inr, zero-add, arith}
+use Rattle.model.specs.declared.Event.TheVariants.{Spawn}
 use Rattle.model.specs.Lists.{any, keep, some_or}
 use Rattle.model.specs.Past.{Past}
 use Rattle.model.specs.Cells.{CellKind, cell_of, cell_held, cells_held}
-use Rattle.model.proofs.Shelf.Tests.{tried, is_false, same-T, or_l, or_r, or_of, or_none, cond_yes, cond_no}
+use Rattle.model.proofs.Shelf.Tests.{tried, or_l, or_r, cond_no}
 
 module _ {C : Type 0} (k : CellKind C) where
   -- whether a list names a cell
@@ -22,10 +22,10 @@ module _ {C : Type 0} (k : CellKind C) where
   drop y xs = keep (λ x. not (k.same y x)) xs
 
   drop_out : (y x : C) (xs : List C) → T (k.same y x) → drop y (x ∷ xs) ≡ drop y xs
-  drop_out y x xs e = cond_no (not (k.same y x)) (x ∷ drop y xs) (drop y xs) (λ z. T_not (k.same y x) z e)
+  drop_out y x xs e = grind arith
 
   drop_in : (y x : C) (xs : List C) → (T (k.same y x) → ⊥) → drop y (x ∷ xs) ≡ (x ∷ drop y xs)
-  drop_in y x xs n = cond_yes (not (k.same y x)) (x ∷ drop y xs) (drop y xs) (not_T (k.same y x) n)
+  drop_in y x xs n = grind arith
 
   has_swap : (x y : C) (xs : List C) → T (k.same x y) → T (has x xs) → T (has y xs)
   has_swap x y xs e t = subst (λ z. T (has z xs)) (k.same_is x y e) t
@@ -33,18 +33,11 @@ module _ {C : Type 0} (k : CellKind C) where
   -- dropping a cell that is not named changes nothing, and dropping one leaves the others
   drop_none : (y : C) (xs : List C) → (T (has y xs) → ⊥) → drop y xs ≡ xs
   drop_none y [] n = refl
-  drop_none y (x ∷ xs) n =
-      drop_in y x xs (λ z. n (or_l (k.same y x) (has y xs) z))
-      ∙ ap (λ w. x ∷ w) (drop_none y xs (λ z. n (or_r (k.same y x) (has y xs) z)))
+  drop_none y (x ∷ xs) n = grind (arith, nat_tests, drop_none y xs)
 
   has_drop : (y x : C) (xs : List C) → (T (k.same y x) → ⊥) → has x (drop y xs) ≡ has x xs
   has_drop y x [] n = refl
-  has_drop y x (z ∷ xs) n = elim (tried (k.same y z)) [
-    | inl e ↦
-        (let other : T (k.same x z) → ⊥ = λ w. n (subst (λ c. T (k.same y c)) (sym (k.same_is x z w)) e) in
-        ap (has x) (drop_out y z xs e) ∙ has_drop y x xs n ∙ ap (λ b. b || has x xs) (sym (is_false (k.same x z) other)))
-    | inr e ↦ ap (has x) (drop_in y z xs e) ∙ ap (λ b. k.same x z || b) (has_drop y x xs n)
-  ]
+  has_drop y x (z ∷ xs) n = grind (arith, nat_tests, has_drop y x xs)
 
   -- 0 for a cell that is named again, 1 for one that is not
   abbrev one : Bool → ℕ
@@ -53,39 +46,18 @@ module _ {C : Type 0} (k : CellKind C) where
   -- dropping one that is named leaves fewer
   distinct_drop : (y : C) (xs : List C) → T (has y xs) → distinct (drop y xs) < distinct xs
   distinct_drop y [] t = absurd t
-  distinct_drop y (x ∷ xs) t = elim (tried (k.same y x)) [
-    | inl e ↦
-        (let w : distinct (drop y (x ∷ xs)) ≡ distinct (drop y xs) = ap distinct (drop_out y x xs e) in
-        elim (tried (has x xs)) [
-          | inl m ↦
-              (let v : one (has x xs) ≡ 0 = cond_yes (has x xs) 0 1 m in
-              let u = distinct_drop y xs (subst (λ z. T (has z xs)) (sym (k.same_is y x e)) m) in
-              omega arith)
-          | inr n ↦
-              (let v : one (has x xs) ≡ 1 = cond_no (has x xs) 0 1 n in
-              let u : distinct (drop y xs) ≡ distinct xs = ap distinct (drop_none y xs (λ m. n (has_swap y x xs e m))) in
-              omega arith)
-        ])
-    | inr n ↦
-        (let w : distinct (drop y (x ∷ xs)) ≡ one (has x xs) + distinct (drop y xs) =
-        ap distinct (drop_in y x xs n) ∙ ap (λ b. one b + distinct (drop y xs)) (has_drop y x xs n) in
-        let m : T (has y xs) = elim (or_of (k.same y x) (has y xs) t) [ inl e ↦ absurd (n e) | inr m ↦ m ] in
-        let u = distinct_drop y xs m in
-        omega arith)
-  ]
+  distinct_drop y (x ∷ xs) t = grind (arith, nat_tests, distinct_drop y xs, drop_out, one, drop_none, has_swap, drop_in, has_drop)
 
   cover : (xs ys : List C) → ((c : C) → T (has c xs) → T (has c ys)) → distinct xs ≤ distinct ys
   cover [] ys f = omega arith
   cover (x ∷ xs) ys f = elim (tried (has x xs)) [
     | inl m ↦
-        (let v : one (has x xs) ≡ 0 = cond_yes (has x xs) 0 1 m in
-        let u = cover xs ys (λ c t. f c (or_r (k.same c x) (has c xs) t)) in
-        omega arith)
+        grind (arith, nat_tests, cover xs)
     | inr n ↦
         (let v : one (has x xs) ≡ 1 = cond_no (has x xs) 0 1 n in
         let other : (c : C) → T (has c xs) → T (k.same x c) → ⊥ = λ c t e. n (subst (λ z. T (has z xs)) (sym (k.same_is x c e)) t) in
         let u : distinct xs ≤ distinct (drop x ys) =
-        cover xs (drop x ys) (λ c t. same-T (sym (has_drop x c ys (other c t))) (f c (or_r (k.same c x) (has c xs) t))) in
+        cover xs (drop x ys) (λ c t. subst T (sym (has_drop x c ys (other c t))) (f c (or_r (k.same c x) (has c xs) t))) in
         let w = distinct_drop x ys (f x (or_l (k.same x x) (has x xs) (k.same_refl x))) in
         omega arith)
   ]
@@ -98,25 +70,17 @@ module _ {C : Type 0} (k : CellKind C) where
   held_has : (g : Past C) (c : C) → cell_held k g c ≡ has c (cells g)
   held_has [] c = refl
   held_has (Spawn t u ∷ g) c = held_has g c
-  held_has (End t ∷ g) c = held_has g c
-  held_has (Open t ∷ g) c = held_has g c
-  held_has (Close t ∷ g) c = held_has g c
-  held_has (Read t d ∷ g) c = ap₂ (λ a b. a || b) (or_none (k.same c d)) (held_has g c)
-  held_has (Write t d ∷ g) c = ap (λ b. k.same c d || b) (held_has g c)
+  held_has (e ∷ g) c = grind (arith, held_has g)
 
   held_distinct : (g : Past C) → cells_held k g ≡ distinct (cells g)
   held_distinct [] = refl
   held_distinct (Spawn t u ∷ g) = zero-add (cells_held k g) ∙ held_distinct g
-  held_distinct (End t ∷ g) = zero-add (cells_held k g) ∙ held_distinct g
-  held_distinct (Open t ∷ g) = zero-add (cells_held k g) ∙ held_distinct g
-  held_distinct (Close t ∷ g) = zero-add (cells_held k g) ∙ held_distinct g
-  held_distinct (Read t d ∷ g) = ap₂ (λ a b. one a + b) (held_has g d) (held_distinct g)
-  held_distinct (Write t d ∷ g) = ap₂ (λ a b. one a + b) (held_has g d) (held_distinct g)
+  held_distinct (e ∷ g) = grind (arith, nat_tests, held_distinct g, one, held_has)
 
   -- a past that touches every cell of another touches no fewer
   pub cells_cover : (g h : Past C) → ((c : C) → T (cell_held k g c) → T (cell_held k h c)) → cells_held k g ≤ cells_held k h
   cells_cover g h f =
-      let u = cover (cells g) (cells h) (λ c t. same-T (held_has h c) (f c (same-T (sym (held_has g c)) t))) in
+      let u = cover (cells g) (cells h) (λ c t. subst T (held_has h c) (f c (subst T (sym (held_has g c)) t))) in
       let v = held_distinct g in
       let w = held_distinct h in
       omega arith

@@ -1,14 +1,14 @@
 -- A part of a past has no more of anything than the past.
-use Rattle.std.proofs.Common.{◌≡◌, ℕ, zero, suc, ◌+◌, ◌<◌, ◌≤◌, List, [], ◌∷◌, length, Some, None, Option, sym, refl, ap, ◌∙◌, ap₂, arith}
+use Rattle.std.proofs.lemmas.Bool.Decides.{nat_tests}
+use Rattle.std.proofs.Common.{◌≡◌, ℕ, zero, suc, ◌+◌, ◌<◌, ◌≤◌, List, [], ◌∷◌, length, Some, None, Option, refl, ap, ◌∙◌, ap₂, arith}
 use Rattle.model.specs.declared.Event.{Event}
 use Rattle.model.specs.Lists.{some_or, below}
 use Rattle.model.specs.Past.{Past, at, child, spawned_tasks}
 use Rattle.model.specs.Rules.{steps_of, steps_held}
 use Rattle.model.specs.Legal.{arranged}
 use Rattle.model.proofs.Shelf.Lists.{below_in}
-use Rattle.model.proofs.Shelf.Places.{at_top, at_old, at_some}
+use Rattle.model.proofs.Shelf.Places.{at_top, at_old}
 use Rattle.model.proofs.Reorderings.Parts.{Part, part_apart, part_inside}
-use Rattle.model.proofs.Reorderings.Arranged.{arranged_cons}
 use Rattle.model.proofs.Orderings.Rows.{sum, sum_le}
 
 sum_same : (f g : ℕ → ℕ) (n : ℕ) → ((i : ℕ) → i < n → f i ≡ g i) → sum f (below n) ≡ sum g (below n)
@@ -27,23 +27,14 @@ module _ {C : Type 0} (w : Event C → ℕ) where
 
   total_all : (h : Past C) → total h ≡ sum (weigh h) (below (length h))
   total_all [] = refl
-  total_all (e ∷ h) =
-      ap₂ (λ a b. a + b) (sym (ap (some_or w 0) (at_top h e)))
-      (total_all h
-      ∙ sum_same (weigh h) (weigh (e ∷ h)) (length h) (λ i lt. sym (ap (some_or w 0) (at_old h e i (omega arith)))))
+  total_all (e ∷ h) = grind (arith, nat_tests, total_all h, at_top, sum_same, at_old)
 
   total_some : (h : Past C) (s : List ℕ) → Part h s → total (arranged h s) ≡ sum (weigh h) s
   total_some h [] P = refl
-  total_some h (x ∷ s) P =
-      let r = at_some h x P.0 in
-      ap total (arranged_cons h x s r.0 r.1) ∙ ap₂ (λ a b. a + b) (sym (ap (some_or w 0) r.1)) (total_some h s P.3)
+  total_some h (x ∷ s) P = grind (arith, total_some h s)
 
   total_part : (h : Past C) (s : List ℕ) → Part h s → total (arranged h s) ≤ total h
-  total_part h s P =
-      let a = total_some h s P in
-      let b = total_all h in
-      let c = sum_le (weigh h) s (below (length h)) (part_apart h s P) (λ i m. below_in (length h) i (part_inside h s P i m)) in
-      omega arith
+  total_part h s P = grind (arith, nat_tests, total_some, total_all, sum_le, part_apart, below_in, part_inside)
 
 one_longer : (xs : List ℕ) (o : Option ℕ) → length (some_or (λ u. u ∷ xs) xs o) ≡ some_or (λ _. 1) 0 o + length xs
 one_longer xs None = omega arith
@@ -63,15 +54,7 @@ module _ {C : Type 0} where
   spawned_total (e ∷ g) = one_longer (spawned_tasks g) (child e) ∙ ap (λ n. births e + n) (spawned_total g)
 
   pub steps_part : (h : Past C) (s : List ℕ) → Part h s → steps_held (arranged h s) ≤ steps_held h
-  steps_part h s P =
-      let a = steps_total (arranged h s) in
-      let b = steps_total h in
-      let c = total_part steps_of h s P in
-      omega arith
+  steps_part h s P = grind (arith, nat_tests, steps_total, total_part)
 
   pub spawned_part : (h : Past C) (s : List ℕ) → Part h s → length (spawned_tasks (arranged h s)) ≤ length (spawned_tasks h)
-  spawned_part h s P =
-      let a = spawned_total (arranged h s) in
-      let b = spawned_total h in
-      let c = total_part births h s P in
-      omega arith
+  spawned_part h s P = grind (arith, nat_tests, spawned_total, total_part)

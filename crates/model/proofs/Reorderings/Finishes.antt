@@ -1,5 +1,7 @@
 -- A finish that a part closes has nobody left in it: whoever lived there has ended, and the close awaits that end.
-use Rattle.std.proofs.Common.{◌≡◌, ℕ, not, ◌&&◌, T, List, ◌∷◌, Some, sym, ap, ◌∙◌, inl, inr, T_not}
+use Rattle.std.proofs.Math.Facts.{and_yes}
+use Rattle.std.proofs.lemmas.Bool.Decides.{nat_tests}
+use Rattle.std.proofs.Common.{◌≡◌, ℕ, not, ◌&&◌, T, List, ◌∷◌, Some, sym, ap, ◌∙◌, arith, subst}
 use lib.Dec.{eqb_refl}
 use Rattle.model.specs.declared.Event.{Event}
 use Rattle.model.specs.declared.Event.TheVariants.{End, Close}
@@ -8,7 +10,6 @@ use Rattle.model.specs.Past.{Past, at, behind, makes, ends, home, innermost, sam
 use Rattle.model.specs.Before.{to_close}
 use Rattle.model.specs.Cells.{CellKind}
 use Rattle.model.specs.Legal.{arranged}
-use Rattle.model.proofs.Shelf.Tests.{tried, and_l, and_r, same-T}
 use Rattle.model.proofs.Shelf.Lists.{mem_swap, any_of}
 use Rattle.model.proofs.Shelf.Places.{any_at}
 use Rattle.model.proofs.Readers.Sound.{Sound, child_known, spawned_is}
@@ -31,7 +32,7 @@ module _
   ended_there : (u p : ℕ) (d : Event C) → at h p ≡ Some d → T (makes u d) → home h u ≡ innermost (behind h i) t → T (ended h u)
   ended_there u p d b m e =
       let (n, f, shut) = shut_at k h so i t a in
-      elim (tried (ended h u)) [ inl y ↦ y | inr r ↦ absurd (shut.empty u (child_known k h p d u b m) r (e ∙ f)) ]
+      grind (arith, child_known)
 
   -- and so in the part, which holds all that the close awaits
   ended_now : (u p : ℕ) (d : Event C) → T (mem p s) → at h p ≡ Some d → T (makes u d) → home now u ≡ innermost now t → T (ended now u)
@@ -48,7 +49,7 @@ module _
   pub none_left : T (lived_in now (innermost now t)) → ⊥
   none_left y =
       let (u, m, w) = any_of (λ v. not (ended now v) && same_finish (home now v) (innermost now t)) (spawned_tasks now) y in
-      let (p, d, q, b, x) = any_arranged h (makes u) s P.3 (same-T (spawned_is k now u) m) in
-      let runs = and_l (not (ended now u)) (same_finish (home now u) (innermost now t)) w in
-      let lives = and_r (not (ended now u)) (same_finish (home now u) (innermost now t)) w in
-      T_not (ended now u) runs (ended_now u p d q b x (same_finish_eq (home now u) (innermost now t) lives))
+      let (p, d, q, b, x) = any_arranged h (makes u) s P.3 (subst T (spawned_is k now u) m) in
+      let runs = (and_yes (not (ended now u)) (same_finish (home now u) (innermost now t)) w).0 in
+      let lives = (and_yes (not (ended now u)) (same_finish (home now u) (innermost now t)) w).1 in
+      grind (arith, nat_tests, ended_now, same_finish_eq)

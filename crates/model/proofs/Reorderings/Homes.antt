@@ -1,17 +1,19 @@
 -- A task's open finishes, and the finish that it lives in, are the same in every part that has its events so far.
-use Rattle.std.proofs.Common.{◌≡◌, ℕ, suc, ◌<◌, cond, ◌&&◌, T, eqb, List, [], ◌∷◌, length, Some, sym, refl, ap, ◌∙◌, subst, ap₂, inl, inr, arith, eqb→eq}
+use Rattle.std.proofs.lemmas.Option.{same_Some}
+use Rattle.std.proofs.lemmas.Bool.Decides.{nat_tests}
+use Rattle.std.proofs.Common.{◌≡◌, ℕ, ◌<◌, T, eqb, List, [], ◌∷◌, length, Some, sym, refl, ap, ◌∙◌, subst, ap₂, inl, inr, arith}
 use Rattle.std.proofs.lemmas.Bool.{cases_eq}
 use Rattle.model.specs.declared.Event.{Event}
-use Rattle.model.specs.declared.Event.TheVariants.{Spawn, End, Open, Close, Read, Write}
-use Rattle.model.specs.Lists.{keep, rest, mem}
-use Rattle.model.specs.Past.{Past, at, behind, actor, makes, is_open, opens, own, own_after, home, innermost, innermost_of, outer}
+use Rattle.model.specs.declared.Event.TheVariants.{Spawn}
+use Rattle.model.specs.Lists.{keep, mem}
+use Rattle.model.specs.Past.{Past, at, behind, actor, makes, opens, own, own_after, home, innermost, innermost_of, outer}
 use Rattle.model.specs.Cells.{CellKind}
 use Rattle.model.specs.Legal.{arranged}
-use Rattle.model.proofs.Shelf.Tests.{tried, and_r, cond_yes, cond_no, cond_eq, cond_ne, some_inj, none_some}
-use Rattle.model.proofs.Shelf.Lists.{mem_head, mem_tail, mem_of, mem_rest}
+use Rattle.model.proofs.Shelf.Tests.{tried, cond_yes}
+use Rattle.model.proofs.Shelf.Lists.{mem_head, mem_tail, mem_rest}
 use Rattle.model.proofs.Shelf.Places.{at_top, at_lt, at_some, at_case, at_grow}
 use Rattle.model.proofs.Shelf.Places.{behind_new, behind_old, length_behind, at_behind, behind_behind}
-use Rattle.model.proofs.Readers.Sound.{Known, Sound, actor_known, child_known, stale}
+use Rattle.model.proofs.Readers.Sound.{Sound, actor_known, child_known, stale}
 use Rattle.model.proofs.Readers.Finishes.{home_old}
 use Rattle.model.proofs.Reorderings.Parts.{Part, part_early}
 use Rattle.model.proofs.Reorderings.Arranged.{arranged_cons}
@@ -24,35 +26,22 @@ module _ {C : Type 0} where
 
   own_skip : (e : Event C) (t n : ℕ) (w : List ℕ) → (t ≡ actor e → ⊥) → own_after e t n w ≡ w
   own_skip (Spawn a u) t n w f = refl
-  own_skip (End a) t n w f = refl
-  own_skip (Open a) t n w f = cond_ne t a (n ∷ w) w f
-  own_skip (Close a) t n w f = cond_ne t a (rest w) w f
-  own_skip (Read a c) t n w f = refl
-  own_skip (Write a c) t n w f = refl
+  own_skip e t n w f = grind arith
 
   mine_cons : (t : ℕ) (e : Event C) (g : Past C) → t ≡ actor e → mine t (e ∷ g) ≡ (e ∷ mine t g)
-  mine_cons t e g y = cond_eq t (actor e) (e ∷ mine t g) (mine t g) y
+  mine_cons t e g y = grind arith
 
   mine_skip : (t : ℕ) (e : Event C) (g : Past C) → (t ≡ actor e → ⊥) → mine t (e ∷ g) ≡ mine t g
-  mine_skip t e g n = cond_ne t (actor e) (e ∷ mine t g) (mine t g) n
+  mine_skip t e g n = grind arith
 
   -- they tell how many finishes it has opened, and which of them are open
   opens_mine : (g : Past C) (t : ℕ) → opens g t ≡ opens (mine t g) t
   opens_mine [] t = refl
-  opens_mine (e ∷ g) t = elim (cases_eq t (actor e)) [
-    | inl y ↦ ap (λ n. cond (is_open e && eqb t (actor e)) (suc n) n) (opens_mine g t) ∙ sym (ap (λ p. opens p t) (mine_cons t e g y))
-    | inr n ↦
-        cond_no (is_open e && eqb t (actor e)) (suc (opens g t)) (opens g t)
-        (λ z. n (eqb→eq t (actor e) (and_r (is_open e) (eqb t (actor e)) z)))
-        ∙ opens_mine g t ∙ sym (ap (λ p. opens p t) (mine_skip t e g n))
-  ]
+  opens_mine (e ∷ g) t = grind (arith, nat_tests, opens_mine g)
 
   own_mine : (g : Past C) (t : ℕ) → own g t ≡ own (mine t g) t
   own_mine [] t = refl
-  own_mine (e ∷ g) t = elim (cases_eq t (actor e)) [
-    | inl y ↦ ap₂ (λ n w. own_after e t n w) (opens_mine g t) (own_mine g t) ∙ sym (ap (λ p. own p t) (mine_cons t e g y))
-    | inr n ↦ own_skip e t (opens g t) (own g t) n ∙ own_mine g t ∙ sym (ap (λ p. own p t) (mine_skip t e g n))
-  ]
+  own_mine (e ∷ g) t = grind (arith, nat_tests, own_mine g, opens_mine, mine_cons, own_skip, mine_skip)
 
   mine_none : (g : Past C) (t : ℕ) → ((p : ℕ) (d : Event C) → at g p ≡ Some d → actor d ≡ t → ⊥) → mine t g ≡ []
   mine_none [] t n = refl
@@ -62,10 +51,10 @@ module _ {C : Type 0} where
   -- the last of them
   mine_last : (g : Past C) (t x : ℕ) (d : Event C) → at g x ≡ Some d → actor d ≡ t
       → ((p : ℕ) (c : Event C) → at g p ≡ Some c → actor c ≡ t → x < p → ⊥) → mine t g ≡ (d ∷ mine t (behind g x))
-  mine_last [] t x d a s n = none_some a
+  mine_last [] t x d a s n = cc
   mine_last (e ∷ g) t x d a s n = elim (at_case g e x d a) [
     | inl w ↦
-        mine_cons t e g (sym (ap actor w.1 ∙ s)) ∙ ap₂ (λ y p. y ∷ mine t p) w.1 (sym (behind_new g e x w.0))
+        grind arith
     | inr w ↦
         mine_skip t e g (λ z. n (length g) e (at_top g e) (sym z) w.0)
         ∙ mine_last g t x d w.1 s (λ p c b r m. n p c (at_grow g e p c b) r m)
@@ -79,23 +68,14 @@ module _ {C : Type 0} (h : Past C) where
 
   -- the part behind an event holds the earlier ones of its task
   upto_here : (i : ℕ) (s : List ℕ) (e : Event C) → Part h (i ∷ s) → at h i ≡ Some e → UpTo s (actor e) i
-  upto_here i s e P a p d b z = (
-    λ q. part_early h i s P p q (λ w. same_before h i p e d a b w (sym z)),
-    λ w. P.2 p (same_before h p i d e b a w z),
-  )
+  upto_here i s e P a p d b z = grind (arith, nat_tests, part_early, same_before)
 
   behind_at : (n p : ℕ) (d : Event C) → n < length h → at (behind h n) p ≡ Some d → (p < n) × (at h p ≡ Some d)
-  behind_at n p d lt a =
-      let len = length_behind h n lt in
-      let low = at_lt (behind h n) p d a in
-      let u : p < n = omega arith in
-      (u, sym (at_behind h n p lt u) ∙ a)
+  behind_at n p d lt a = grind (arith, nat_tests, length_behind, at_lt, at_behind)
 
   none_later : (x : ℕ) (s : List ℕ) (t n : ℕ) → n < length h → UpTo (x ∷ s) t n → UpTo s t x
       → (p : ℕ) (d : Event C) → at (behind h n) p ≡ Some d → actor d ≡ t → x < p → ⊥
-  none_later x s t n lt f low p d a z w =
-      let (u, b) = behind_at n p d lt a in
-      elim (mem_of p x s ((f p d b z).1 u)) [ inl q ↦ omega arith | inr q ↦ (let o = (low p d b z).0 q in omega arith) ]
+  none_later x s t n lt f low p d a z w = grind (arith, nat_tests, behind_at)
 
   -- such a part has the same events of t as the past behind n
   mine_part : (s : List ℕ) → Part h s → (t n : ℕ) → n < length h → UpTo s t n → mine t (arranged h s) ≡ mine t (behind h n)
@@ -115,7 +95,7 @@ module _ {C : Type 0} (h : Past C) where
             ∙ ap (λ w. e ∷ mine t w) (behind_behind h n x lt xn)))
         | inr y ↦
             (let other : (p : ℕ) (d : Event C) → at h p ≡ Some d → actor d ≡ t → p ≡ x → ⊥ =
-            λ p d b z q. y (sym z ∙ ap actor (some_inj (sym b ∙ ap (at h) q ∙ a))) in
+            λ p d b z q. y (sym z ∙ ap actor (same_Some _ _ (sym b ∙ ap (at h) q ∙ a))) in
             mine_skip t e (arranged h s) y
             ∙ mine_part s P.3 t n lt
             (λ p d b z. (λ q. (f p d b z).0 (mem_tail p x s q), λ u. mem_rest p x s (other p d b z) ((f p d b z).1 u))))
@@ -123,10 +103,7 @@ module _ {C : Type 0} (h : Past C) where
 
   pub own_part : (i : ℕ) (s : List ℕ) (e : Event C) → Part h (i ∷ s) → at h i ≡ Some e
       → own (arranged h s) (actor e) ≡ own (behind h i) (actor e)
-  own_part i s e P a =
-      own_mine (arranged h s) (actor e)
-      ∙ ap (λ g. own g (actor e)) (mine_part s P.3 (actor e) i P.0 (upto_here i s e P a))
-      ∙ sym (own_mine (behind h i) (actor e))
+  own_part i s e P a = grind (arith, nat_tests, own_mine, mine_part, upto_here)
 
 module _ {C : Type 0} (k : CellKind C) where
   home_none : (g : Past C) (u : ℕ) → ((p : ℕ) (d : Event C) → at g p ≡ Some d → T (makes u d) → ⊥) → home g u ≡ outer
@@ -136,29 +113,13 @@ module _ {C : Type 0} (k : CellKind C) where
   -- a task lives where its spawner was
   home_made : (h : Past C) → Sound k h → (u x : ℕ) (d : Event C)
       → at h x ≡ Some d → T (makes u d) → home h u ≡ innermost (behind h x) (actor d)
-  home_made [] s u x d a m = none_some a
-  home_made (e ∷ h) s u x d a m = elim (at_case h e x d a) [
-    | inl w ↦
-        cond_yes (makes u e) (innermost h (actor e)) (home h u) (subst (λ c. T (makes u c)) (sym w.1) m)
-        ∙ ap₂ (λ g c. innermost g (actor c)) (sym (behind_new h e x w.0)) w.1
-    | inr w ↦
-        home_old h e u (stale k h e s.0 u (child_known k h x d u w.1 m))
-        ∙ home_made h s.1 u x d w.1 m
-        ∙ ap (λ g. innermost g (actor d)) (sym (behind_old h e x w.0))
-  ]
+  home_made [] s u x d a m = cc
+  home_made (e ∷ h) s u x d a m = grind (arith, nat_tests, home_made h, at_case, behind_new, home_old, stale, child_known, behind_old)
 
   -- and it lives there when it acts
   home_behind : (h : Past C) → Sound k h → (x : ℕ) (d : Event C) → at h x ≡ Some d → home (behind h x) (actor d) ≡ home h (actor d)
-  home_behind [] s x d a = none_some a
-  home_behind (e ∷ h) s x d a = elim (at_case h e x d a) [
-    | inl w ↦
-        ap (λ g. home g (actor d)) (behind_new h e x w.0)
-        ∙ sym (home_old h e (actor d) (stale k h e s.0 (actor d) (subst (λ c. Known k h (actor c)) w.1 s.0.is_known)))
-    | inr w ↦
-        ap (λ g. home g (actor d)) (behind_old h e x w.0)
-        ∙ home_behind h s.1 x d w.1
-        ∙ sym (home_old h e (actor d) (stale k h e s.0 (actor d) (actor_known k h s.1 x d w.1)))
-  ]
+  home_behind [] s x d a = cc
+  home_behind (e ∷ h) s x d a = grind (arith, nat_tests, home_behind h, at_case, behind_new, home_old, stale, behind_old, actor_known)
 
 module _ {C : Type 0} (k : CellKind C) (h : Past C) (so : Sound k h) where
   -- a part with a task's spawn says where the task lives
@@ -177,12 +138,10 @@ module _ {C : Type 0} (k : CellKind C) (h : Past C) (so : Sound k h) where
             ∙ sym (home_made k h so u x e a m)
         | inr n ↦
             (let other : (p : ℕ) (d : Event C) → at h p ≡ Some d → T (makes u d) → p ≡ x → ⊥ =
-            λ p d b m q. n (subst (λ c. T (makes u c)) (some_inj (sym b ∙ ap (at h) q ∙ a)) m) in
+            λ p d b m q. n (subst (λ c. T (makes u c)) (same_Some _ _ (sym b ∙ ap (at h) q ∙ a)) m) in
             home_old (arranged h s) e u n ∙ home_part s P.3 u (λ p d b m. mem_rest p x s (other p d b m) (f p d b m)))
       ]
 
   pub innermost_part : (i : ℕ) (s : List ℕ) (e : Event C) → Part h (i ∷ s) → at h i ≡ Some e
       → innermost (arranged h s) (actor e) ≡ innermost (behind h i) (actor e)
-  innermost_part i s e P a =
-      ap₂ (λ w y. innermost_of (actor e) w y) (own_part h i s e P a)
-      (home_part s P.3 (actor e) (λ p d b n. P.2 p (makes_before k h so p i d e b a n)) ∙ sym (home_behind k h so i e a))
+  innermost_part i s e P a = grind (arith, nat_tests, own_part, home_part, makes_before, home_behind)

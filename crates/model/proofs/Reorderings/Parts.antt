@@ -1,12 +1,11 @@
 -- The parts of a past that hold all that is before any of their events.
-use Rattle.std.proofs.Common.{ℕ, ◌<◌, T, List, [], ◌∷◌, length, sym, refl, subst, inl, inr}
-use Rattle.std.proofs.lemmas.Bool.{cases_order}
+use Rattle.std.proofs.lemmas.Bool.Decides.{nat_tests}
+use Rattle.std.proofs.Common.{ℕ, ◌<◌, T, List, [], ◌∷◌, length, arith}
 use Rattle.model.specs.Lists.{mem}
 use Rattle.model.specs.Past.{Past}
 use Rattle.model.specs.Before.{HappensBefore}
 use Rattle.model.specs.Legal.{Legal, ahead}
-use Rattle.model.proofs.Shelf.Lists.{mem_head, mem_tail, mem_of, mem_swap}
-use Rattle.model.proofs.Orderings.Rows.{Apart, ahead_of}
+use Rattle.model.proofs.Orderings.Rows.{Apart}
 use Rattle.model.proofs.Orderings.Legals.{legal_apart, legal_bound}
 
 module _ {C : Type 0} (h : Past C) where
@@ -21,40 +20,21 @@ module _ {C : Type 0} (h : Past C) where
 
   pub part_inside : (s : List ℕ) → Part s → (i : ℕ) → T (mem i s) → i < length h
   part_inside [] P i q = absurd q
-  part_inside (x ∷ s) P i q = elim (mem_of i x s q) [
-    | inl p ↦ subst (λ z. z < length h) (sym p) P.0
-    | inr r ↦ part_inside s P.3 i r
-  ]
+  part_inside (x ∷ s) P i q = grind (arith, part_inside s)
 
   -- a part holds what is before any event of it
   pub part_closed : (s : List ℕ) → Part s → (i j : ℕ) → T (mem j s) → HappensBefore h i j → T (mem i s)
   part_closed [] P i j q b = absurd q
-  part_closed (x ∷ s) P i j q b = mem_tail i x s (elim (mem_of j x s q) [
-    | inl p ↦ P.2 i (subst (HappensBefore h i) p b)
-    | inr r ↦ part_closed s P.3 i j r b
-  ])
+  part_closed (x ∷ s) P i j q b = grind (arith, part_closed s)
 
   -- a place of a part that, were it later than the next one, would be after it
   pub part_early : (x : ℕ) (s : List ℕ) → Part (x ∷ s) → (p : ℕ) → T (mem p s) → (x < p → HappensBefore h x p) → p < x
-  part_early x s P p q f = elim (cases_order p x) [
-    | inl e ↦ absurd (P.1 (mem_swap p x s e q))
-    | inr (inl lt) ↦ lt
-    | inr (inr lt) ↦ absurd (P.1 (part_closed s P.3 x p q (f lt)))
-  ]
+  part_early x s P p q f = grind (arith, part_closed)
 
   ahead_part : (s : List ℕ) → Apart s → ((i : ℕ) → T (mem i s) → i < length h)
       → ((i j : ℕ) → T (mem j s) → HappensBefore h i j → T (ahead s i j)) → Part s
   ahead_part [] a c k = tt
-  ahead_part (x ∷ s) a c k = (
-    c x (mem_head x s),
-    a.0,
-    λ i b. elim (ahead_of x s i x (k i x (mem_head x s) b)) [ inl p ↦ p.1 | inr p ↦ absurd (p.0 refl) ],
-    ahead_part s a.1 (λ i r. c i (mem_tail i x s r))
-        (λ i j r b. elim (ahead_of x s i j (k i j (mem_tail j x s r) b)) [
-          | inl p ↦ absurd (a.0 (mem_swap j x s (sym p.0) r))
-          | inr p ↦ p.1
-        ]),
-  )
+  ahead_part (x ∷ s) a c k = grind (arith, nat_tests, ahead_part s)
 
   pub part_of_legal : (o : List ℕ) → Legal h o → Part o
   part_of_legal o L = ahead_part o (legal_apart h o L) (legal_bound h o L) (λ i j q b. L.keeps i j b)

@@ -1,7 +1,7 @@
 -- What is before in a past whose every event was taken is before in every part of it that is arranged.
 use Rattle.std.proofs.Common.{◌≡◌, ℕ, ◌<◌, ◌&&◌, ◌||◌, T, eqb, List, ◌∷◌, Some, sym, refl, ◌∙◌, subst, ap₂}
 use Rattle.model.specs.declared.Event.{Event}
-use Rattle.model.specs.declared.Event.TheVariants.{Spawn, End, Open, Close, Read, Write}
+use Rattle.model.specs.declared.Event.TheVariants.{Close}
 use Rattle.model.specs.Lists.{mem}
 use Rattle.model.specs.Past.{Past, at, behind, actor, makes, ends, home, same_finish}
 use Rattle.model.specs.Before.{HappensBefore, direct, through, leads, awaits}
@@ -18,17 +18,13 @@ module _ {C : Type 0} (k : CellKind C) (h : Past C) (so : Sound k h) where
   -- the next event awaits the same ends in a part
   awaits_same : (j : ℕ) (s : List ℕ) (e : Event C) → Part h (j ∷ s) → at h j ≡ Some e
       → (i : ℕ) (d : Event C) → T (mem i s) → i < j → at h i ≡ Some d → awaits (behind h j) d e ≡ awaits (arranged h s) d e
-  awaits_same j s (Spawn t u) P b i d q lt a = refl
-  awaits_same j s (End t) P b i d q lt a = refl
-  awaits_same j s (Open t) P b i d q lt a = refl
   awaits_same j s (Close t) P b i d q lt a =
       let spawn_in : (p : ℕ) (c : Event C) → at h p ≡ Some c → T (makes (actor d) c) → T (mem p s) =
       λ p c x m. part_closed h s P.3 p i q (makes_before k h so p i c d x a m) in
       let lives : home (behind h j) (actor d) ≡ home (arranged h s) (actor d) =
       home_then k h so i j d lt P.0 a ∙ sym (home_part k h so s P.3 (actor d) spawn_in) in
       ap₂ (λ x y. ends (actor d) d && same_finish x y) lives (sym (innermost_part k h so j s (Close t) P b))
-  awaits_same j s (Read t c) P b i d q lt a = refl
-  awaits_same j s (Write t c) P b i d q lt a = refl
+  awaits_same j s e P b i d q lt a = refl
 
   pub transfer : (s : List ℕ) → Part h s → (i j : ℕ) → T (mem j s)
       → HappensBefore h i j → HappensBefore (arranged h s) (pos s i) (pos s j)

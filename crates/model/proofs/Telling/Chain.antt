@@ -1,10 +1,12 @@
 -- Two events of one task: the steps from each of its events to the next lead from the first to the second.
-use Rattle.std.proofs.Common.{◌≡◌, ℕ, suc, ◌+◌, ◌<◌, ◌≤◌, Bool, false, ◌&&◌, T, eqb, ltb, ◌⊎◌, Some, sym, ◌∙◌, inl, inr, arith, eqb→eq, ltb→lt, lt→ltb}
+use Rattle.std.proofs.Math.Facts.{yes_and, yes_eqb}
+use Rattle.std.proofs.lemmas.Bool.Decides.{nat_tests}
+use Rattle.std.proofs.Common.{◌≡◌, ℕ, suc, ◌+◌, ◌<◌, ◌≤◌, Bool, false, ◌&&◌, T, eqb, ltb, ◌⊎◌, Some, inl, inr, arith, lt→ltb}
 use Rattle.model.specs.declared.Event.{Event}
 use Rattle.model.specs.Lists.{any, below, some_or}
 use Rattle.model.specs.Past.{Past, at, actor}
 use Rattle.model.specs.Before.{NoneBetween, Told, to_next, through}
-use Rattle.model.proofs.Shelf.Tests.{and_in, and_l, and_r, eqb_in, some_or_in, some_or_of, tried}
+use Rattle.model.proofs.Shelf.Tests.{some_or_in, tried}
 use Rattle.model.proofs.Shelf.Lists.{any_below_in, any_below_of}
 
 module _ {C : Type 0} where
@@ -21,16 +23,12 @@ module _ {C : Type 0} where
   acts_past h t i p = ltb i p && acts_at h t p
 
   some_between : (h : Past C) (t i j : ℕ) → T (any (acts_past h t i) (below j)) → OneBetween h t i j
-  some_between h t i j q =
-      let (p, l, r) = any_below_of (acts_past h t i) j q in
-      let past : i < p = ltb→lt i p (and_l (ltb i p) (acts_at h t p) r) in
-      let (d, is, own) = some_or_of (λ d. eqb (actor d) t) (at h p) (and_r (ltb i p) (acts_at h t p) r) in
-      (p, d, past, l, is, eqb→eq (actor d) t own)
+  some_between h t i j q = grind (arith, any_below_of)
 
   nothing_between : (h : Past C) (t i j : ℕ) → (T (any (acts_past h t i) (below j)) → ⊥) → NoneBetween h t i j
   nothing_between h t i j n p d a b q e =
-      let own : T (acts_at h t p) = some_or_in (λ d. eqb (actor d) t) (at h p) d q (eqb_in (actor d) t e) in
-      n (any_below_in (acts_past h t i) j p b (and_in (ltb i p) (acts_at h t p) (lt→ltb i p a) own))
+      let own : T (acts_at h t p) = some_or_in (λ d. eqb (actor d) t) (at h p) d q (yes_eqb e) in
+      n (any_below_in (acts_past h t i) j p b (yes_and (ltb i p) (acts_at h t p) (lt→ltb i p a) own))
 
   between : (h : Past C) (t i j : ℕ) → OneBetween h t i j ⊎ NoneBetween h t i j
   between h t i j = elim (tried (any (acts_past h t i) (below j))) [
@@ -43,8 +41,7 @@ module _ {C : Type 0} where
       → at h i ≡ Some d → at h j ≡ Some e → actor d ≡ actor e → Told h i j
   chain_in ℕ.zero h i j d e l q a b t = absurd (omega arith)
   chain_in (suc n) h i j d e l q a b t = elim (between h (actor d) i j) [
-    | inl r ↦ (let (p, c, x, y, z, w) = r in
-        through i p j (chain_in n h i p d c (omega arith) x a z (sym w)) (chain_in n h p j c e (omega arith) y z b (w ∙ t)))
+    | inl r ↦ grind (arith, nat_tests, chain_in n, through)
     | inr r ↦ to_next i j d e q a b t r
   ]
 

@@ -1,64 +1,48 @@
 -- The told relation and the recorded one are the same: each rule of one is a rule of the other, or a chain of its steps.
-use Rattle.std.proofs.Common.{◌≡◌, ℕ, ◌<◌, ◌&&◌, ◌||◌, T, eqb, Some, sym, refl, ap, ◌∙◌, inl, inr, eqb→eq}
+use Rattle.std.proofs.Math.Facts.{or_yes}
+use Rattle.std.proofs.lemmas.Bool.Decides.{nat_tests}
+use Rattle.std.proofs.Common.{◌≡◌, ℕ, ◌<◌, ◌||◌, T, eqb, Some, sym, ap, ◌∙◌, inl, inr, eqb→eq, arith}
 use Rattle.model.specs.declared.Event.{Event}
-use Rattle.model.specs.declared.Event.TheVariants.{Spawn, End, Open, Close, Read, Write}
-use Rattle.model.specs.Past.{Past, at, behind, actor, makes, ends, home, innermost, Finish, same_finish, closes}
+use Rattle.model.specs.declared.Event.TheVariants.{Spawn, End, Close}
+use Rattle.model.specs.Past.{Past, at, behind, actor, makes, ends, home, innermost, Finish, closes}
 use Rattle.model.specs.Before.{awaits, leads, HappensBefore, direct, through, Told, to_next, to_child, to_close, through as told_through}
 use Rattle.model.specs.Cells.{CellKind}
-use Rattle.model.proofs.Shelf.Tests.{and_in, and_l, and_r, eqb_in, none_some, or_l, or_of, or_r, some_inj, some_or_in, some_or_of}
 use Rattle.model.proofs.Shelf.Places.{at_lt}
 use Rattle.model.proofs.Readers.Sound.{Sound}
-use Rattle.model.proofs.Readers.Finishes.{same_finish_eq, same_finish_refl}
 use Rattle.model.proofs.Telling.Chain.{chain}
 use Rattle.model.proofs.Telling.Sooner.{home_then, spawn_sooner, end_sooner}
 
 module _ {C : Type 0} where
   -- the three disjuncts of `leads`
   leads_same : (g : Past C) (d e : Event C) → actor d ≡ actor e → T (leads g d e)
-  leads_same g d e q = or_l (eqb (actor d) (actor e)) (makes (actor e) d || awaits g d e) (eqb_in (actor d) (actor e) q)
+  leads_same g d e q = grind arith
 
   leads_makes : (g : Past C) (d e : Event C) → T (makes (actor e) d) → T (leads g d e)
-  leads_makes g d e q = or_r (eqb (actor d) (actor e)) (makes (actor e) d || awaits g d e) (or_l (makes (actor e) d) (awaits g d e) q)
+  leads_makes g d e q = grind arith
 
   leads_awaits : (g : Past C) (d e : Event C) → T (awaits g d e) → T (leads g d e)
-  leads_awaits g d e q = or_r (eqb (actor d) (actor e)) (makes (actor e) d || awaits g d e) (or_r (makes (actor e) d) (awaits g d e) q)
+  leads_awaits g d e q = grind arith
 
   -- an end of a task that lives in the finish that e closes
   awaits_by : (g : Past C) (d e : Event C) → T (ends (actor d) d) → closes g e ≡ Some (home g (actor d)) → T (awaits g d e)
-  awaits_by g d e q c =
-      some_or_in (λ f. ends (actor d) d && same_finish (home g (actor d)) f) (closes g e) (home g (actor d)) c
-      (and_in (ends (actor d) d) (same_finish (home g (actor d)) (home g (actor d))) q (same_finish_refl (home g (actor d))))
+  awaits_by g d e q c = grind arith
 
   awaits_of : (g : Past C) (d e : Event C) → T (awaits g d e) → T (ends (actor d) d) × (closes g e ≡ Some (home g (actor d)))
-  awaits_of g d e q =
-      let (f, c, r) = some_or_of (λ f. ends (actor d) d && same_finish (home g (actor d)) f) (closes g e) q in (
-        and_l (ends (actor d) d) (same_finish (home g (actor d)) f) r,
-        c ∙ ap Some (sym (same_finish_eq (home g (actor d)) f (and_r (ends (actor d) d) (same_finish (home g (actor d)) f) r))),
-      )
+  awaits_of g d e q = grind arith
 
   -- an event that ends a task is an end, and one that closes a finish a close
   end_is : (d : Event C) → T (ends (actor d) d) → d ≡ End (actor d)
   end_is (Spawn t u) q = absurd q
-  end_is (End t) q = refl
-  end_is (Open t) q = absurd q
-  end_is (Close t) q = absurd q
-  end_is (Read t c) q = absurd q
-  end_is (Write t c) q = absurd q
+  end_is e q = grind arith
 
   close_is : (g : Past C) (e : Event C) (f : Finish) → closes g e ≡ Some f → (e ≡ Close (actor e)) × (innermost g (actor e) ≡ f)
-  close_is g (Spawn t u) f q = none_some q
-  close_is g (End t) f q = none_some q
-  close_is g (Open t) f q = none_some q
-  close_is g (Close t) f q = (refl, some_inj q)
-  close_is g (Read t c) f q = none_some q
-  close_is g (Write t c) f q = none_some q
+  close_is g (Spawn t u) f q = cc
+  close_is g e f q = grind arith
 
 module _ {C : Type 0} (k : CellKind C) where
   awaited_sooner : (h : Past C) → Sound k h → (i j : ℕ) (d e : Event C) → at h i ≡ Some d → at h j ≡ Some e
       → T (ends (actor d) d) → closes (behind h j) e ≡ Some (home h (actor d)) → i < j
-  awaited_sooner h s i j d e a b q c =
-      let (x, y) = close_is (behind h j) e (home h (actor d)) c in
-      end_sooner k h s i j (actor d) (actor e) (a ∙ ap Some (end_is d q)) (b ∙ ap Some x) y
+  awaited_sooner h s i j d e a b q c = grind (arith, nat_tests, close_is, end_sooner, end_is)
 
   awaited_before : (h : Past C) → Sound k h → (i j : ℕ) (d e : Event C) → at h i ≡ Some d → at h j ≡ Some e
       → T (ends (actor d) d) → closes (behind h j) e ≡ Some (home h (actor d)) → HappensBefore h i j
@@ -80,9 +64,9 @@ module _ {C : Type 0} (k : CellKind C) where
   told_before h s _ _ (told_through i j l p q) = through i j l (told_before h s i j p) (told_before h s j l q)
 
   pub before_told : (h : Past C) → Sound k h → (i j : ℕ) → HappensBefore h i j → Told h i j
-  before_told h s _ _ (direct i j d e l a b q) = elim (or_of (eqb (actor d) (actor e)) (makes (actor e) d || awaits (behind h j) d e) q) [
+  before_told h s _ _ (direct i j d e l a b q) = elim (or_yes (eqb (actor d) (actor e)) (makes (actor e) d || awaits (behind h j) d e) q) [
     | inl x ↦ chain h i j d e l a b (eqb→eq (actor d) (actor e) x)
-    | inr x ↦ elim (or_of (makes (actor e) d) (awaits (behind h j) d e) x) [
+    | inr x ↦ elim (or_yes (makes (actor e) d) (awaits (behind h j) d e) x) [
       | inl y ↦ to_child i j d e a b y
       | inr y ↦ awaits_told h s i j d e l a b y
     ]

@@ -1,12 +1,11 @@
 -- A spawn was recorded earlier than every event of the child, and a task's end earlier than the close that awaits it.
+use Rattle.std.proofs.lemmas.Bool.Decides.{nat_tests}
 use Rattle.std.proofs.Common.{◌≡◌, ℕ, ◌<◌, T, [], ◌∷◌, length, Some, sym, ap, ◌∙◌, subst, inl, inr, arith}
 use Rattle.model.specs.declared.Event.{Event}
 use Rattle.model.specs.declared.Event.TheVariants.{End, Close}
 use Rattle.model.specs.Past.{Past, at, behind, actor, makes, home, innermost}
 use Rattle.model.specs.Cells.{CellKind}
-use Rattle.std.proofs.lemmas.Bool.{cases_eq}
-use Rattle.model.proofs.Shelf.Tests.{none_some}
-use Rattle.model.proofs.Shelf.Places.{at_case, behind_old, behind_top}
+use Rattle.model.proofs.Shelf.Places.{at_case, behind_old}
 use Rattle.model.proofs.Readers.Sound.{Known, Good, Sound, actor_known, stale}
 use Rattle.model.proofs.Readers.Finishes.{home_old}
 use Rattle.model.proofs.Telling.Shut.{shut_at}
@@ -18,16 +17,12 @@ module _ {C : Type 0} (k : CellKind C) where
   -- where the actor of an event lives does not change later
   pub home_then : (h : Past C) → Sound k h → (i j : ℕ) (d : Event C) → i < j → j < length h → at h i ≡ Some d
       → home (behind h j) (actor d) ≡ home h (actor d)
-  home_then [] s i j d l m q = none_some q
+  home_then [] s i j d l m q = cc
   home_then (e ∷ h) s i j d l m q = elim (at_case h e i d q) [
     | inl r ↦ (let z : ⊥ = omega arith in absurd z)
     | inr r ↦ (let (p, a) = r in
         let kept = home_kept h e (actor d) s.0 (actor_known k h s.1 i d a) in
-        elim (cases_eq j (length h)) [
-          | inl x ↦ ap (λ g. home g (actor d)) (ap (behind (e ∷ h)) x ∙ behind_top h e) ∙ sym kept
-          | inr x ↦ (let y : j < length h = omega arith in
-              ap (λ g. home g (actor d)) (behind_old h e j y) ∙ (home_then h s.1 i j d l y a ∙ sym kept))
-        ])
+        grind (arith, nat_tests, home_then h))
   ]
 
   -- a spawn that is the last event made no task that is known
@@ -36,34 +31,18 @@ module _ {C : Type 0} (k : CellKind C) where
 
   pub spawn_sooner : (h : Past C) → Sound k h → (i j : ℕ) (d e : Event C) → at h i ≡ Some d → at h j ≡ Some e
       → T (makes (actor e) d) → i < j
-  spawn_sooner [] s i j d e a b m = none_some a
-  spawn_sooner (f ∷ h) s i j d e a b m = elim (at_case h f i d a) [
-    | inl r ↦ elim (at_case h f j e b) [
-      | inl q ↦ absurd (not_last h f d (actor e) s.0 r.1 (subst (λ x. Known k h (actor x)) q.1 s.0.is_known) m)
-      | inr q ↦ absurd (not_last h f d (actor e) s.0 r.1 (actor_known k h s.1 j e q.1) m)
-    ]
-    | inr r ↦ elim (at_case h f j e b) [
-      | inl q ↦ omega arith
-      | inr q ↦ spawn_sooner h s.1 i j d e r.1 q.1 m
-    ]
-  ]
+  spawn_sooner [] s i j d e a b m = cc
+  spawn_sooner (f ∷ h) s i j d e a b m = grind (arith, nat_tests, spawn_sooner h, at_case, not_last, actor_known)
 
   -- a task that ends after the close ran at the close or was spawned later: either way it does not live there
   too_late : (h : Past C) (j u t : ℕ) → Good k h (End u) → Sound k h → at h j ≡ Some (Close t) → innermost (behind h j) t ≡ home h u → ⊥
   too_late h j u t g s q z = let (n, i, x) = shut_at k h s j t q in x.empty u g.is_known g.runs (sym z ∙ i)
 
-  end_not_close : (u t : ℕ) {A : Type 0} → ◌≡◌ {A = Event C} (End u) (Close t) → A
-  end_not_close u t e = let z : ◌≡◌ {A = ℕ} 0 1 = cc in absurd (omega arith)
-
   pub end_sooner : (h : Past C) → Sound k h → (i j u t : ℕ) → at h i ≡ Some (End u) → at h j ≡ Some (Close t)
       → innermost (behind h j) t ≡ home h u → i < j
-  end_sooner [] s i j u t a b z = none_some a
+  end_sooner [] s i j u t a b z = cc
   end_sooner (f ∷ h) s i j u t a b z = elim (at_case h f i (End u) a) [
-    | inl r ↦ elim (at_case h f j (Close t) b) [
-      | inl q ↦ end_not_close u t (sym r.1 ∙ q.1)
-      | inr q ↦ absurd (too_late h j u t (subst (λ x. Good k h x) r.1 s.0) s.1 q.1
-          (ap (λ g. innermost g t) (sym (behind_old h f j q.0)) ∙ (z ∙ ap (λ x. home (x ∷ h) u) r.1)))
-    ]
+    | inl r ↦ grind (arith, nat_tests, too_late, behind_old)
     | inr r ↦ elim (at_case h f j (Close t) b) [
       | inl q ↦ omega arith
       | inr q ↦ end_sooner h s.1 i j u t r.1 q.1

@@ -1,17 +1,17 @@
 -- A call that adds steps keeps the shape: the new labels lie past a child of a node, and what lies under that child ends before them.
 use Rattle.std.proofs.Common.{◌≡◌, ℕ, suc, ◌+◌, ◌<◌, ◌≤◌, Bool, true, false, cond, not, T, eqb, ltb, ◌⊎◌, List, [], ◌∷◌, ◌++◌, sym, ap, ◌∙◌, subst, ap₂, inl, inr, append_assoc, arith}
-use Rattle.std.proofs.lemmas.Bool.{cases_lt, cases_eq, cases_order, cond-true, cond-false, eq-eqb, ne_eqb}
+use Rattle.std.proofs.lemmas.Bool.{cases_eq, cases_order, cond-true, cond-false, eq-eqb, ne_eqb}
 use Rattle.std.proofs.lemmas.Bool.Decides.{nat_tests}
 use Rattle.model.specs.Orders.{Order, Task, at_or_before, earlier_with}
 use Rattle.model.specs.Labels.{Label, odd, left, over, Under, Low}
 use Rattle.model.specs.Trees.{Labelled}
 use Rattle.model.specs.Shapes.{In, Above, Lows, Stack, Runner, Covered, Shape}
-use Rattle.model.proofs.Shelf.Tests.{is_false, is_true, T-ext, or_l, or_r}
+use Rattle.model.proofs.Shelf.Tests.{is_false, is_true}
 use Rattle.model.proofs.Trees.Labels.{Alike, alike_past, left_none, over_none, turn_left, turn_right, turn_over, turn_back}
 use Rattle.model.proofs.Trees.Labels.{low_off, low_turn, under_tried, under_low, under_more, under_refl, not_under}
 use Rattle.model.proofs.Trees.Labels.{Beside, beside_left, beside_right, beside_over, beside_back, beside_under, beside_above}
 use Rattle.model.proofs.Trees.Relabel.{above_in, above_top}
-use Rattle.model.proofs.Trees.Tasks.{Inner, Goes, Holds, by_task, by_inner, by_last, no_before, current_apart, current_covered}
+use Rattle.model.proofs.Trees.Tasks.{Inner, Holds, by_task, by_inner, no_before, current_apart, current_covered}
 use Rattle.model.proofs.Trees.Grow.{Slot, slot_low, stack_grow, runner_grow}
 
 -- the child k of the node q: the current step of the task t, or a finish that t closes
@@ -101,26 +101,7 @@ module _ (m : Order) (lab : ℕ → Label) (now new : ℕ) (now_held : now < m.s
     (fresh_after : (x : ℕ) → Fresh m new x → After m lab now (lab x))
     (news : (a b : ℕ) → Fresh m new a → Fresh m new b → left (lab a) (lab b) ≡ ltb a b) where
   earlier_grow : (a b : ℕ) → a < m.steps + new → b < m.steps + new → earlier_with m now new a b ≡ left (lab a) (lab b)
-  earlier_grow a b h k = go (cases_lt a m.steps) (cases_lt b m.steps)
-    where
-      go : (a < m.steps) ⊎ (m.steps ≤ a) → (b < m.steps) ⊎ (m.steps ≤ b) → earlier_with m now new a b ≡ left (lab a) (lab b)
-      go (inl x) (inl y) =
-          let e : m.earlier a b ≡ left (lab a) (lab b) = old a b x y in
-          let z : a ≡ b → left (lab a) (lab b) ≡ false = λ w. left_none (lab a) (lab b) (ap lab w) in
-          grind (arith, nat_tests)
-      go (inl x) (inr y) =
-          let e : m.earlier a now ≡ left (lab a) (lab now) = old a now x now_held in
-          let z : (a ≡ now → ⊥) → left (lab a) (lab b) ≡ left (lab a) (lab now) = (fresh_after b (y, k)).left_to a x in
-          let o : left (lab now) (lab b) ≡ true = (fresh_after b (y, k)).own_to in
-          grind (arith, nat_tests)
-      go (inr x) (inl y) =
-          let e : m.earlier now b ≡ left (lab now) (lab b) = old now b now_held y in
-          let z : (b ≡ now → ⊥) → left (lab a) (lab b) ≡ left (lab now) (lab b) = (fresh_after a (x, h)).left_from b y in
-          let o : left (lab a) (lab now) ≡ false = (fresh_after a (x, h)).own_from in
-          grind (arith, nat_tests)
-      go (inr x) (inr y) =
-          let e : left (lab a) (lab b) ≡ ltb a b = news a b (x, h) (y, k) in
-          grind (arith, nat_tests)
+  earlier_grow a b h k = grind (arith, nat_tests, left_none, now_held, fresh_after)
 
 module _ {m n : Order} {lab node : ℕ → Label} {by owner : ℕ → ℕ} (sh : Shape m lab node by owner) {t : ℕ} (run : T (m.task t).running)
     {new : ℕ} {q : Label} {k : ℕ} {joins : ℕ → Bool} (place : Spot m lab node t q k joins) (grown : Adds m n lab node t new q k joins) where
@@ -162,14 +143,14 @@ module _ {m n : Order} {lab node : ℕ → Label} {by owner : ℕ → ℕ} (sh :
           → left (lab x) z ≡ left (lab x) (lab now)
       to x a d (inl u) =
           let v = tail_of (lab x) u in
-          ap₂ left v.1 e ∙ turn_left q k j v.0 w l ∙ sym (place.latest x a d u).0
+          grind (arith, turn_left)
       to x a d (inr u) = (as_now x a u z (j, w, l, e)).left_to
 
       from : (x : ℕ) → x < m.steps → (x ≡ now → ⊥) → Under child (lab x) ⊎ (Under child (lab x) → ⊥)
           → left z (lab x) ≡ left (lab now) (lab x)
       from x a d (inl u) =
           let v = tail_of (lab x) u in
-          ap₂ left e v.1 ∙ turn_right q k j v.0 w l ∙ sym (place.latest x a d u).1
+          grind (arith, turn_right)
       from x a d (inr u) = (as_now x a u z (j, w, l, e)).left_from
 
       back : (x : ℕ) → x < m.steps → Under child (lab x) ⊎ (Under child (lab x) → ⊥) → over z (lab x) ≡ false
@@ -193,38 +174,18 @@ module _ {m n : Order} {lab node : ℕ → Label} {by owner : ℕ → ℕ} (sh :
       go (inr d) =
           let b : m.before x now ≡ over (lab x) (lab now) = sh.labelled.before_is x now h now_held in
           let i : over (lab x) z ≡ m.before x now = (as_now x h d z (j, w, l, e)).over_to ∙ sym b in
-          T-ext (joins x) (over (lab x) z) (λ a. subst T (sym i) (place.joined_out x a d)) (λ o. place.joined_before x (subst T i o))
+          grind arith
 
   -- a step is an old one or a new one
   old_new : (x : ℕ) → x < n.steps → (x < m.steps) ⊎ Fresh m new x
-  old_new x h = go (cases_lt x m.steps)
-    where
-      go : (x < m.steps) ⊎ (m.steps ≤ x) → (x < m.steps) ⊎ Fresh m new x
-      go (inl l) = inl l
-      go (inr l) = let e = grown.counts.0 in inr (l, omega arith)
+  old_new x h = grind arith
 
   -- two new steps
   news_left : (a b : ℕ) → Fresh m new a → Fresh m new b → left (lab a) (lab b) ≡ ltb a b
-  news_left a b (h, i) (u, v) = go (cases_order a b)
-    where
-      go : (a ≡ b) ⊎ ((a < b) ⊎ (b < a)) → left (lab a) (lab b) ≡ ltb a b
-      go (inl e) =
-          let z : left (lab a) (lab b) ≡ false = left_none (lab a) (lab b) (ap lab e) in
-          grind (arith, nat_tests)
-      go (inr (inl l)) =
-          let z : left (lab a) (lab b) ≡ true = beside_left (lab a) (lab b) (grown.in_turn a b h l v) in
-          grind (arith, nat_tests)
-      go (inr (inr l)) =
-          let z : left (lab a) (lab b) ≡ false = beside_right (lab b) (lab a) (grown.in_turn b a u l i) in
-          grind (arith, nat_tests)
+  news_left a b (h, i) (u, v) = grind (arith, nat_tests, left_none, beside_left, beside_right)
 
   news_over : (a b : ℕ) → Fresh m new a → Fresh m new b → over (lab a) (lab b) ≡ false
-  news_over a b (h, i) (u, v) = go (cases_order a b)
-    where
-      go : (a ≡ b) ⊎ ((a < b) ⊎ (b < a)) → over (lab a) (lab b) ≡ false
-      go (inl e) = over_none (lab a) (lab b) (ap lab e)
-      go (inr (inl l)) = beside_over (lab a) (lab b) (grown.in_turn a b h l v)
-      go (inr (inr l)) = beside_back (lab b) (lab a) (grown.in_turn b a u l i)
+  news_over a b (h, i) (u, v) = grind (arith, nat_tests, over_none, beside_over, grown.in_turn, beside_back)
 
   news_leaf : (a b : ℕ) → Fresh m new a → Fresh m new b → Under (lab a) (lab b) → a ≡ b
   news_leaf a b (h, i) (u, v) w = go (cases_order a b)
@@ -236,12 +197,7 @@ module _ {m n : Order} {lab node : ℕ → Label} {by owner : ℕ → ℕ} (sh :
 
   -- only old steps are before another
   before_from : (a b : ℕ) → T (n.before a b) → (a < m.steps) × (b < m.steps + new)
-  before_from a b h = go (cases_lt b m.steps) (cases_lt b (m.steps + new))
-    where
-      go : (b < m.steps) ⊎ (m.steps ≤ b) → (b < m.steps + new) ⊎ (m.steps + new ≤ b) → (a < m.steps) × (b < m.steps + new)
-      go (inl x) y = let v = sh.before_held a b (subst T (grown.before_old a b (inl x)) h) in (v.0, omega arith)
-      go (inr x) (inl y) = (place.joined_held a (subst T (grown.before_new a b (x, y)) h), y)
-      go (inr x) (inr y) = let v = sh.before_held a b (subst T (grown.before_old a b (inr y)) h) in (v.0, omega arith)
+  before_from a b h = grind arith
 
   before_is : (a b : ℕ) → a < n.steps → b < n.steps → n.before a b ≡ over (lab a) (lab b)
   before_is a b h i = go (old_new a h) (old_new b i)
@@ -297,19 +253,12 @@ module _ {m n : Order} {lab node : ℕ → Label} {by owner : ℕ → ℕ} (sh :
       }
 
   more_steps : (x : ℕ) → x < n.steps → (x < m.steps) ⊎ Slot q k (lab x)
-  more_steps x h = go (old_new x h)
-    where
-      go : (x < m.steps) ⊎ Fresh m new x → (x < m.steps) ⊎ Slot q k (lab x)
-      go (inl l) = inl l
-      go (inr l) = inr (grown.step_slot x l)
+  more_steps x h = grind arith
 
   -- the new labels fit the level of a finish other than the child
   level_fits : (y : ℕ) → y < m.finishes → (node y ≡ child → ⊥)
       → (p : Label) (i : ℕ) → node y ≡ p ++ (i ∷ []) → Lows m lab node p (suc i) → (z : Label) → Slot q k z → Low p (suc i) z
-  level_fits y h d p i e l =
-      let low : Low p (suc i) child = place.low_there p (suc i) (l.step_low now now_held) l.node_low in
-      slot_low p (suc i) q k (suc k) i low (subst (Low q (suc k)) e (place.level.node_low y h)) (omega arith)
-      (λ a x y. let v : i ≡ k = omega arith in d (e ∙ ap₂ (λ v w. v ++ (w ∷ [])) a v))
+  level_fits y h d p i e l = grind (arith, nat_tests, slot_low)
 
   -- a stack goes on if the child is no finish in it
   pub stack_more : (p : Label) (fs : List ℕ) → ((y : ℕ) → In y fs → (y < m.finishes) × (node y ≡ child → ⊥))
@@ -332,20 +281,10 @@ module _ {m n : Order} {lab node : ℕ → Label} {by owner : ℕ → ℕ} (sh :
           level_fits f ((sh.runner u go).finish_held f j) (place.stays u f go d j) p i
 
       tip : (b : ℕ) → T (n.before (m.task u).current b) → ⊥
-      tip b h = split (cases_lt b m.steps) (before_from (m.task u).current b h).1
-        where
-          split : (b < m.steps) ⊎ (m.steps ≤ b) → b < m.steps + new → ⊥
-          split (inl l) i = (sh.runner u go).tip b (subst T (grown.before_old (m.task u).current b (inl l)) h)
-          split (inr l) i = place.joined_tip u go d (subst T (grown.before_new (m.task u).current b (l, i)) h)
+      tip b h = grind arith
 
       top : (y : Label) → Slot q k y → Low (sh.runner u go).path (sh.runner u go).turn y
-      top =
-          let v : Runner m lab node by owner u (m.task u) = sh.runner u go in
-          slot_low v.path v.turn q k (suc k) v.turn
-          (place.low_there v.path v.turn (v.step_low now now_held (λ e. d (current_apart sh u t go run (sym e)))) v.node_low)
-          (subst (Low q (suc k)) v.at (place.level.step_low (m.task u).current v.current_held))
-          (omega arith)
-          (λ e a b. let z : ⊥ = omega arith in z)
+      top = grind (arith, nat_tests, slot_low, now_held, current_apart)
 
   -- a task that goes on at a new step
   pub on_new : (u : ℕ) (a : Task) → u < n.tasks → Fresh m new a.current → by a.current ≡ u
@@ -378,17 +317,13 @@ module _ {m n : Order} {lab node : ℕ → Label} {by owner : ℕ → ℕ} (sh :
   module _ (own : Task) (goes : T own.running) (fresh : Fresh m new own.current) (task_own : n.task t ≡ own)
       (task_other : (u : ℕ) → T (m.task u).running → (u ≡ t → ⊥) → n.task u ≡ m.task u) where
     at_old : (l x : ℕ) → l < m.steps → T (at_or_before m l x) → T (at_or_before n l x)
-    at_old l x h w = let e : n.before x l ≡ m.before x l = grown.before_old x l (inl h) in grind (arith, nat_tests)
+    at_old l x h w = let e : n.before x l ≡ m.before x l = grown.before_old x l (inl h) in grind arith
 
     pub own_joined : (h x : ℕ) → In h own.finishes → T (joins x) → Covered n lab node h x
-    own_joined h x i w =
-        by_task n lab node h x t (subst (Goes n h x) (sym task_own)
-        (goes, i, or_r (eqb x own.current) (n.before x own.current) (subst T (sym (grown.before_new x own.current fresh)) w)))
+    own_joined h x i w = grind arith
 
     pub own_here : (h x : ℕ) → In h own.finishes → x ≡ own.current → Covered n lab node h x
-    own_here h x i e =
-        by_task n lab node h x t (subst (Goes n h x) (sym task_own)
-        (goes, i, or_l (eqb x own.current) (n.before x own.current) (grind (arith, nat_tests))))
+    own_here h x i e = grind arith
 
     pub own_inner : (h x y : ℕ) → Above y h own.finishes → Under (node y) (lab x) → Covered n lab node h x
     own_inner h x y a w = by_inner n lab node h x t y (subst (Holds lab node h x y) (sym task_own) (goes, a, w))
@@ -399,27 +334,14 @@ module _ {m n : Order} {lab node : ℕ → Label} {by owner : ℕ → ℕ} (sh :
         by_inner n lab node h x u y (subst (Holds lab node h x y) (sym (task_other u go d)) (go, a, w))
 
     joined_at : (x : ℕ) → T (at_or_before m now x) → T (joins x)
-    joined_at x w = go (cases_eq x now)
-      where
-        go : (x ≡ now) ⊎ (x ≡ now → ⊥) → T (joins x)
-        go (inl e) = subst (λ z. T (joins z)) (sym e) (place.joined_in now now_held now_under)
-        go (inr d) = place.joined_before x (grind (arith, nat_tests))
+    joined_at x w = grind (arith, nat_tests, now_under, place.joined_in, place.joined_before)
 
     -- an old step stays covered
     cover_old : (h x : ℕ) → (In h (m.task t).finishes → In h own.finishes)
         → ((y : ℕ) → Above y h (m.task t).finishes → Under (node y) (lab x) → Covered n lab node h x)
         → Covered m lab node h x → Covered n lab node h x
-    cover_old h x keeps inner (inl (u, go, i, w)) = split (cases_eq u t)
-      where
-        split : (u ≡ t) ⊎ (u ≡ t → ⊥) → Covered n lab node h x
-        split (inl e) =
-            own_joined h x (keeps (subst (λ z. In h (m.task z).finishes) e i))
-            (joined_at x (subst (λ z. T (at_or_before m (m.task z).current x)) e w))
-        split (inr d) =
-            let at = at_old (m.task u).current x (sh.runner u go).current_held w in
-            by_task n lab node h x u (subst (Goes n h x) (sym (task_other u go d)) (go, i, at))
-    cover_old h x keeps inner (inr (inl (l, i, w))) =
-        by_last n lab node h x l (subst T (sym (grown.lasts h l)) i) (at_old l x (sh.last_held h l i).1 w)
+    cover_old h x keeps inner (inl (u, go, i, w)) = grind (arith, nat_tests, joined_at, at_old, by_task, task_other)
+    cover_old h x keeps inner (inr (inl (l, i, w))) = grind arith
     cover_old h x keeps inner (inr (inr (u, y, go, a, w))) = split (cases_eq u t)
       where
         split : (u ≡ t) ⊎ (u ≡ t → ⊥) → Covered n lab node h x
@@ -465,8 +387,8 @@ module _ {m n : Order} {lab node : ℕ → Label} {by owner : ℕ → ℕ} (sh :
         before_held = λ a b h. let v = before_from a b h in let e = grown.counts.0 in (omega arith, omega arith);
         earlier_held = λ a b h.
             let v : T (earlier_with m now new a b) = subst T (grown.earlier_new a b) h in
-            let x : a < m.steps + new = grind (arith, nat_tests) in
-            let y : b < m.steps + new = grind (arith, nat_tests) in
+            let x : a < m.steps + new = grind arith in
+            let y : b < m.steps + new = grind arith in
             let e = grown.counts.0 in (omega arith, omega arith);
         labelled = still_labelled;
         node_apart = node_apart;

@@ -1,5 +1,6 @@
 -- A close keeps the shape: the new step comes past the node of the finish, in which all has ended.
-use Rattle.std.proofs.Common.{◌≡◌, ℕ, suc, ◌<◌, Bool, true, false, cond, not, ◌&&◌, ◌||◌, T, eqb, ◌⊎◌, List, [], ◌∷◌, ◌++◌, sym, refl, ap, ◌∙◌, subst, ap₂, inl, inr, append_assoc, arith}
+use Rattle.std.proofs.Math.Facts.{yes_and}
+use Rattle.std.proofs.Common.{◌≡◌, ℕ, suc, ◌<◌, Bool, true, false, cond, not, ◌&&◌, ◌||◌, T, eqb, ◌⊎◌, List, [], ◌∷◌, ◌++◌, sym, refl, ap, ◌∙◌, subst, inl, inr, append_assoc, arith}
 use Rattle.std.proofs.lemmas.Bool.{cases_eq}
 use Rattle.std.proofs.lemmas.Bool.Decides.{nat_tests}
 use Rattle.model.specs.Lists.{any, below, head_or, rest}
@@ -7,11 +8,11 @@ use Rattle.model.specs.Orders.{Order, Task, at_or_before, closed}
 use Rattle.model.specs.Labels.{Label, odd, left, over, Under, Low}
 use Rattle.model.specs.Shapes.{In, Above, Stack, Runner, Covered, Shape}
 use Rattle.model.proofs.Trees.Relabel.{above_in}
-use Rattle.model.proofs.Shelf.Tests.{or_of, or_l, or_r, and_in, and_l, and_r}
+use Rattle.model.proofs.Shelf.Tests.{or_r}
 use Rattle.model.proofs.Shelf.Lists.{any_below_of, any_below_in}
 use Rattle.model.proofs.Trees.Labels.{under_low, low_more, low_turn, low_off, under_cut, left_same, turn_left, turn_right, alike_past}
 use Rattle.model.proofs.Trees.Tasks.{IsOpen, retask_case, retask_at, retask_off, at_held, not_at, current_apart}
-use Rattle.model.proofs.Trees.Added.{one_added, Spot, Fresh, Adds, stack_more, on_other, on_new, added_shape}
+use Rattle.model.proofs.Trees.Added.{Spot, Fresh, Adds, stack_more, on_other, on_new, added_shape}
 use Rattle.model.proofs.Trees.Added.{own_joined, own_here, own_inner, cover}
 
 module _ (m : Order) (lab node : ℕ → Label) (by owner : ℕ → ℕ) (sh : Shape m lab node by owner) (t : ℕ) (run : T (m.task t).running)
@@ -59,19 +60,12 @@ module _ (m : Order) (lab node : ℕ → Label) (by owner : ℕ → ℕ) (sh : S
   f_held : f < m.finishes
   f_held = here.finish_held f (own_in f (inl refl))
 
-  f_owner : owner f ≡ t
-  f_owner = (here.owns f g (own_above f g (inl (refl, inl refl)))).0
-
   not_twice : In f (g ∷ fs) → ⊥
   not_twice i = let h = (here.owns f f (own_above f f (inl (refl, i)))).1 in omega arith
 
   -- the task that closes is the only one in the finish
   only_own : (u : ℕ) → T (m.task u).running → In f (m.task u).finishes → u ≡ t
-  only_own u go i = split ((sh.runner u go).seat f i)
-    where
-      split : (owner f ≡ u) ⊎ T (m.lives f u) → u ≡ t
-      split (inl e) = sym e ∙ f_owner
-      split (inr l) = absurd (empty u l)
+  only_own u go i = grind arith
 
   not_inside : (h : ℕ) → Above h f (f ∷ (g ∷ fs)) → ⊥
   not_inside h (inl a) = not_twice a.1
@@ -85,9 +79,7 @@ module _ (m : Order) (lab node : ℕ → Label) (by owner : ℕ → ℕ) (sh : S
   all_ended : (x : ℕ) → Covered m lab node f x → Ended x
   all_ended x (inl (u, go, i, h)) = inl (subst (λ z. T (at_or_before m (m.task z).current x)) (only_own u go i) h)
   all_ended x (inr (inl c)) = inr c
-  all_ended x (inr (inr (u, h, go, a, w))) =
-      let e : u ≡ t = only_own u go (above_in h f (m.task u).finishes a) in
-      absurd (not_inside h (subst (Above h f) fin (subst (λ z. Above h f (m.task z).finishes) e a)))
+  all_ended x (inr (inr (u, h, go, a, w))) = grind (arith, nat_tests, only_own, above_in, not_inside)
 
   -- whether a last step of the finish h is x or comes after it
   abbrev awaited : ℕ → ℕ → Bool
@@ -101,20 +93,12 @@ module _ (m : Order) (lab node : ℕ → Label) (by owner : ℕ → ℕ) (sh : S
   before_is a b = ap (λ z. cond (eqb b m.steps) (at_or_before m now a || awaited (head_or z 0) a) (m.before a b)) fin
 
   joined_ended : (a : ℕ) → T (joined a) → Ended a
-  joined_ended a h = go (or_of (at_or_before m now a) (awaited f a) h)
-    where
-      go : T (at_or_before m now a) ⊎ T (awaited f a) → Ended a
-      go (inl k) = inl k
-      go (inr k) =
-          let w = any_below_of (λ l. m.last f l && at_or_before m l a) m.steps k in
-          let z = and_l (m.last f w.0) (at_or_before m w.0 a) w.2 in
-          let y = and_r (m.last f w.0) (at_or_before m w.0 a) w.2 in
-          inr (w.0, z, y)
+  joined_ended a h = grind (arith, nat_tests, any_below_of)
 
   ended_joined : (a : ℕ) → Ended a → T (joined a)
-  ended_joined a (inl h) = or_l (at_or_before m now a) (awaited f a) h
+  ended_joined a (inl h) = grind arith
   ended_joined a (inr (l, h, i)) =
-      let both = and_in (m.last f l) (at_or_before m l a) h i in
+      let both = yes_and (m.last f l) (at_or_before m l a) h i in
       let k : T (awaited f a) = any_below_in (λ l. m.last f l && at_or_before m l a) m.steps l (sh.last_held f l h).1 both in
       or_r (at_or_before m now a) (awaited f a) k
 
@@ -135,16 +119,8 @@ module _ (m : Order) (lab node : ℕ → Label) (by owner : ℕ → ℕ) (sh : S
   now_last x h d (w, e) = go w e
     where
       go : (w : Label) → lab x ≡ node f ++ w → (left (lab x) (lab now) ≡ true) × (left (lab now) (lab x) ≡ false)
-      go [] e = (
-        ap₂ left e now_in.1 ∙ left_same (node f) [] (here.turn ∷ []),
-        ap₂ left now_in.1 e ∙ left_same (node f) (here.turn ∷ []) [],
-      )
-      go (a ∷ w) e =
-          let low : Low (node f) here.turn (lab x) = subst (λ z. Low z here.turn (lab x)) level.2 (here.step_low x h d) in
-          let l : a < here.turn = low_turn (node f) here.turn a w (subst (Low (node f) here.turn) e low) in (
-            ap₂ left e now_in.1 ∙ turn_left (node f) a here.turn w [] l,
-            ap₂ left now_in.1 e ∙ turn_right (node f) a here.turn w [] l,
-          )
+      go [] e = grind (arith, left_same)
+      go (a ∷ w) e = grind (arith, nat_tests, low_turn, turn_left, turn_right)
 
   -- what is outside the finish and before a step in it is before the current step
   before_now : (x y : ℕ) → y < m.steps → (Under (q ++ (k ∷ [])) (lab x) → ⊥) → Under (node f) (lab y)
@@ -164,10 +140,7 @@ module _ (m : Order) (lab node : ℕ → Label) (by owner : ℕ → ℕ) (sh : S
 
       go : (x ≡ y) ⊎ (x ≡ y → ⊥) → T (m.before x now)
       go (inl e) = absurd (d (subst (λ z. Under z (lab x)) at_f (subst (λ w. Under (node f) (lab w)) (sym e) u)))
-      go (inr c) =
-          let b : T (m.before x y) = grind (arith, nat_tests) in
-          let h : x < m.steps = (sh.before_held x y b).0 in
-          subst T (sh.labelled.before_is x y h i ∙ same h ∙ sym (sh.labelled.before_is x now h here.current_held)) b
+      go (inr c) = grind (arith, nat_tests, same)
 
   joined_out : (x : ℕ) → Ended x → (Under (q ++ (k ∷ [])) (lab x) → ⊥) → T (m.before x now)
   joined_out x (inl a) d = before_now x now here.current_held d now_in a
@@ -204,14 +177,12 @@ module _ (m : Order) (lab node : ℕ → Label) (by owner : ℕ → ℕ) (sh : S
 
   module _ (j : ℕ) (k_j : k < j) (even_j : T (not (odd j))) (lab_own : lab m.steps ≡ q ++ (j ∷ [])) (by_own : by m.steps ≡ t) where
     close_adds : Adds m n lab node t 1 q k joined
-    close_adds =
-        one_added (refl, omega arith, omega arith) (λ f l. refl) (λ f u h. h) (λ a b. refl) before_is
-        (j, [], k_j, lab_own) (λ f h. inl h)
+    close_adds = grind arith
 
     keeps : (y : ℕ) → In y (g ∷ fs) → (y < m.finishes) × (node y ≡ q ++ (k ∷ []) → ⊥)
     keeps y i =
         let h : y < m.finishes = here.finish_held y (own_in y (inr i)) in
-        (h, not_closed y h (λ e. not_twice (subst (λ w. In w (g ∷ fs)) e i)))
+        grind (arith, nat_tests, not_closed, not_twice)
 
     on_own : Runner n lab node by owner t own
     on_own =
@@ -246,20 +217,10 @@ module _ (m : Order) (lab node : ℕ → Label) (by owner : ℕ → ℕ) (sh : S
     OpenBefore x = (x ≡ f → ⊥) × IsOpen m x
 
     was_open : (v x : ℕ) → T (n.task v).running → In x (n.task v).finishes → OpenBefore x
-    was_open v x =
-        retask_case (λ k. T k.running → In x k.finishes → OpenBefore x) m.task t closed_task v
-        (λ e go i. of_own (subst (λ w. In x w.finishes) closed_own i))
-        (λ d go i. (λ e. d (only_own v go (subst (λ w. In w (m.task v).finishes) e i)), (v, go, i)))
-      where
-        of_own : In x (g ∷ fs) → OpenBefore x
-        of_own i = (λ e. not_twice (subst (λ w. In w (g ∷ fs)) e i), (t, run, own_in x (inr i)))
+    was_open v x = grind (arith, nat_tests, closed_own, only_own, not_twice, own_in)
 
     still_in : (x : ℕ) → (x ≡ f → ⊥) → In x (m.task t).finishes → In x (g ∷ fs)
-    still_in x d i = go (subst (In x) fin i)
-      where
-        go : In x (f ∷ (g ∷ fs)) → In x (g ∷ fs)
-        go (inl e) = absurd (d e)
-        go (inr i) = i
+    still_in x d i = grind arith
 
     cover_all : (v h x : ℕ) → T (n.task v).running → In h (n.task v).finishes → x < n.steps → Under (node h) (lab x)
         → Covered n lab node h x

@@ -3,7 +3,7 @@ use Rattle.std.proofs.Common.{◌≡◌, ℕ, ◌<◌, false, T, ◌⊎◌, [], 
 use Rattle.std.proofs.lemmas.Bool.{cases_eq}
 use Rattle.std.proofs.lemmas.Bool.Decides.{nat_tests}
 use Rattle.model.specs.Lists.{head_or}
-use Rattle.model.specs.Orders.{Order, Task, at_or_before, done}
+use Rattle.model.specs.Orders.{Order, Task, done}
 use Rattle.model.specs.Labels.{Label, Under}
 use Rattle.model.specs.Trees.{Labelled}
 use Rattle.model.specs.Shapes.{In, Above, Stack, Runner, Covered, Shape}
@@ -30,21 +30,13 @@ module _ (m : Order) (lab node : ℕ → Label) (by owner : ℕ → ℕ) (sh : S
 
   -- the last steps are the old ones, and the task's own
   last_split : (g l : ℕ) → T (n.last g l) → ((g ≡ f) × (l ≡ now)) ⊎ T (m.last g l)
-  last_split g l h = go (cases_eq g f) (cases_eq l now)
-    where
-      go : (g ≡ f) ⊎ (g ≡ f → ⊥) → (l ≡ now) ⊎ (l ≡ now → ⊥) → ((g ≡ f) × (l ≡ now)) ⊎ T (m.last g l)
-      go (inl a) (inl b) = inl (a, b)
-      go (inl a) (inr b) = inr (grind (arith, nat_tests))
-      go (inr a) c = let w : head_or (m.task t).finishes 0 ≡ f = head_is in inr (grind (arith, nat_tests))
-
-  last_own : T (n.last f now)
-  last_own = let w : head_or (m.task t).finishes 0 ≡ f = head_is in grind (arith, nat_tests)
+  last_split g l h = grind arith
 
   last_old : (g l : ℕ) → T (m.last g l) → T (n.last g l)
-  last_old g l h = grind (arith, nat_tests)
+  last_old g l h = grind arith
 
   lives_old : (g u : ℕ) → (u ≡ t → ⊥) → T (m.lives g u) → T (n.lives g u)
-  lives_old g u d h = grind (arith, nat_tests)
+  lives_old g u d h = grind arith
 
   f_in : In f (m.task t).finishes
   f_in = subst (In f) (sym fin) (inl refl)
@@ -74,9 +66,7 @@ module _ (m : Order) (lab node : ℕ → Label) (by owner : ℕ → ℕ) (sh : S
   task_other u d = retask_off m.task t own u d
 
   was_open : (v x : ℕ) → T (n.task v).running → In x (n.task v).finishes → T (m.task v).running × In x (m.task v).finishes
-  was_open v x =
-      retask_case (λ k. T k.running → In x k.finishes → T (m.task v).running × In x (m.task v).finishes) m.task t own v
-      (λ e go i. absurd go) (λ d go i. (go, i))
+  was_open v x = grind arith
 
   cover : (h x : ℕ) → Covered m lab node h x → Covered n lab node h x
   cover h x (inl (u, go, i, c)) = split (cases_eq u t)
@@ -86,10 +76,7 @@ module _ (m : Order) (lab node : ℕ → Label) (by owner : ℕ → ℕ) (sh : S
       at_f (inr i) = absurd i
 
       split : (u ≡ t) ⊎ (u ≡ t → ⊥) → Covered n lab node h x
-      split (inl e) =
-          let w : h ≡ f = at_f (subst (In h) fin (subst (λ z. In h (m.task z).finishes) e i)) in
-          by_last n lab node h x now (subst (λ z. T (n.last z now)) (sym w) last_own)
-          (subst (λ z. T (at_or_before m (m.task z).current x)) e c)
+      split (inl e) = grind arith
       split (inr d) = by_task n lab node h x u (subst (Goes n h x) (sym (task_other u d)) (go, i, c))
   cover h x (inr (inl (l, i, c))) = by_last n lab node h x l (last_old h l i) c
   cover h x (inr (inr (u, y, go, a, c))) = split (cases_eq u t)
@@ -110,11 +97,7 @@ module _ (m : Order) (lab node : ℕ → Label) (by owner : ℕ → ℕ) (sh : S
       go (inr k) = sh.last_held g l k
 
   last_under : (g l : ℕ) → T (n.last g l) → Under (node g) (lab l)
-  last_under g l h = go (last_split g l h)
-    where
-      go : ((g ≡ f) × (l ≡ now)) ⊎ T (m.last g l) → Under (node g) (lab l)
-      go (inl (a, b)) = subst (λ z. Under (node z) (lab l)) (sym a) (subst (λ z. Under (node f) (lab z)) (sym b) f_over)
-      go (inr k) = sh.last_under g l k
+  last_under g l h = grind (arith, nat_tests, f_over, sh.last_under)
 
   still_labelled : Labelled n lab
   still_labelled =

@@ -1,5 +1,6 @@
 -- What is low at a node stays so as new labels come at a slot: a node, and a turn there past which nothing is yet.
-use Rattle.std.proofs.Common.{◌≡◌, ℕ, suc, ◌<◌, ◌≤◌, T, ◌⊎◌, List, [], ◌∷◌, ◌++◌, sym, refl, subst, inl, inr, arith}
+use Rattle.std.proofs.lemmas.Bool.Decides.{nat_tests}
+use Rattle.std.proofs.Common.{◌≡◌, ℕ, suc, ◌<◌, ◌≤◌, T, ◌⊎◌, List, [], ◌∷◌, ◌++◌, inl, inr, arith}
 use Rattle.model.specs.Orders.{Order, Task}
 use Rattle.model.specs.Labels.{Label, Low}
 use Rattle.model.specs.Shapes.{Above, Lows, Stack, Runner}
@@ -13,8 +14,7 @@ Slot q k y = (j : ℕ) × (r : Label) × (k < j) × (y ≡ q ++ (j ∷ r))
 -- what is low at p is so of a slot beside it
 pub slot_low : (p : Label) (n : ℕ) (q : Label) (k up : ℕ) (at : ℕ) → Low p n (q ++ (k ∷ [])) → Low q up (p ++ (at ∷ [])) → up ≤ suc k
     → (p ≡ q → k < n → at < up → ⊥) → (y : Label) → Slot q k y → Low p n y
-slot_low p n q k up at a b l c y s =
-    subst (Low p n) (sym s.3) (low_beside p n q k up at s.0 s.1 a b (let h : k < s.0 = s.2 in omega arith) c)
+slot_low p n q k up at a b l c y s = grind (arith, low_beside)
 
 -- the order n has the steps and finishes of m, and more of them with labels in `New`
 module _ (m n : Order) (lab node : ℕ → Label) (New : Label → Type 0)
@@ -35,8 +35,7 @@ module _ (m n : Order) (lab node : ℕ → Label) (New : Label → Type 0)
       → ((f g : ℕ) (p : Label) (i : ℕ) → Above f g fs → node f ≡ p ++ (i ∷ []) → Lows m lab node p (suc i)
       → (y : Label) → New y → Low p (suc i) y)
       → Stack m lab node p fs → Stack n lab node p fs
-  stack_grow p fs fits s =
-      stack_map m n lab node lab node p fs (λ f i. refl) (λ f g p i a e l. lows_grow p (suc i) (fits f g p i a e l) l) s
+  stack_grow p fs fits s = grind (arith, nat_tests, stack_map, lows_grow)
 
   pub runner_grow : (by owner : ℕ → ℕ) (u : ℕ) (t : Task) (r : Runner m lab node by owner u t)
       → m.tasks ≤ n.tasks → m.steps ≤ n.steps → m.finishes ≤ n.finishes

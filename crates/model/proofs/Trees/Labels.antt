@@ -9,11 +9,11 @@ pub over_left : (a b : Label) → T (over a b) → T (left a b)
 over_left [] [] h = h
 over_left [] (y ∷ b) h = h
 over_left (x ∷ a) [] h = h
-over_left (x ∷ a) (y ∷ b) h = grind (arith, nat_tests, over_left a b)
+over_left (x ∷ a) (y ∷ b) h = grind (arith, over_left a b)
 
 pub left_irrefl : (a : Label) → T (left a a) → ⊥
 left_irrefl [] h = h
-left_irrefl (x ∷ a) h = grind (arith, nat_tests, left_irrefl a)
+left_irrefl (x ∷ a) h = grind (arith, left_irrefl a)
 
 both_trans : (a b c : Label)
     → (T (left a b) → T (left b c) → T (left a c)) × (T (over a b) → T (over b c) → T (over a c))
@@ -22,8 +22,7 @@ both_trans [] (y ∷ b) [] = (λ h k. k, λ h k. k)
 both_trans [] (y ∷ b) (z ∷ c) = (λ h k. tt, λ h k. tt)
 both_trans (x ∷ a) [] c = (λ h k. absurd h, λ h k. absurd h)
 both_trans (x ∷ a) (y ∷ b) [] = (λ h k. k, λ h k. k)
-both_trans (x ∷ a) (y ∷ b) (z ∷ c) =
-    (λ h k. grind (arith, nat_tests, (both_trans a b c).0), λ h k. grind (arith, nat_tests, (both_trans a b c).1))
+both_trans (x ∷ a) (y ∷ b) (z ∷ c) = grind (arith, nat_tests, both_trans a)
 
 pub left_trans : (a b c : Label) → T (left a b) → T (left b c) → T (left a c)
 left_trans a b c = (both_trans a b c).0
@@ -35,17 +34,7 @@ pub left_total : (a b : Label) → (a ≡ b → ⊥) → T (left a b) ⊎ T (lef
 left_total [] [] n = absurd (n refl)
 left_total [] (y ∷ b) n = inl tt
 left_total (x ∷ a) [] n = inr tt
-left_total (x ∷ a) (y ∷ b) n = go (cases_order x y) (left_total a b)
-  where
-    deep : x ≡ y → T (left a b) ⊎ T (left b a) → T (left (x ∷ a) (y ∷ b)) ⊎ T (left (y ∷ b) (x ∷ a))
-    deep e (inl h) = inl (grind (arith, nat_tests))
-    deep e (inr h) = inr (grind (arith, nat_tests))
-
-    go : (x ≡ y) ⊎ ((x < y) ⊎ (y < x)) → ((a ≡ b → ⊥) → T (left a b) ⊎ T (left b a))
-        → T (left (x ∷ a) (y ∷ b)) ⊎ T (left (y ∷ b) (x ∷ a))
-    go (inl e) rec = deep e (rec (λ k. n (ap₂ ◌∷◌ e k)))
-    go (inr (inl l)) rec = inl (grind (arith, nat_tests))
-    go (inr (inr l)) rec = inr (grind (arith, nat_tests))
+left_total (x ∷ a) (y ∷ b) n = grind (arith, left_total a)
 
 -- of two labels that are not over one after the other, the later one is over wherever the earlier one is
 pub over_between : (a b c : Label) → T (left a b) → T (left b c) → (T (over a b) → ⊥) → T (over a c) → T (over b c)
@@ -57,11 +46,11 @@ over_between (x ∷ a) (y ∷ b) (z ∷ c) h k n o = grind (arith, nat_tests, ov
 
 pub left_same : (p a b : Label) → left (p ++ a) (p ++ b) ≡ left a b
 left_same [] a b = refl
-left_same (x ∷ p) a b = let h : left (p ++ a) (p ++ b) ≡ left a b = left_same p a b in grind (arith, nat_tests)
+left_same (x ∷ p) a b = let h : left (p ++ a) (p ++ b) ≡ left a b = left_same p a b in grind arith
 
 pub over_same : (p a b : Label) → over (p ++ a) (p ++ b) ≡ over a b
 over_same [] a b = refl
-over_same (x ∷ p) a b = let h : over (p ++ a) (p ++ b) ≡ over a b = over_same p a b in grind (arith, nat_tests)
+over_same (x ∷ p) a b = let h : over (p ++ a) (p ++ b) ≡ over a b = over_same p a b in grind arith
 
 pub low_turn : (p : Label) (n i : ℕ) (r : Label) → Low p n (p ++ (i ∷ r)) → i < n
 low_turn [] n i r h = h
@@ -84,10 +73,10 @@ pub record Alike (y z w : Label) : Type 0 where
 alike_apart : (i x : ℕ) (y z w : Label) → (x ≡ i → ⊥) → Alike (i ∷ y) (x ∷ z) (x ∷ w)
 alike_apart i x y z w d =
     record {
-      left_to = grind (arith, nat_tests);
-      left_from = grind (arith, nat_tests);
-      over_to = grind (arith, nat_tests);
-      over_from = grind (arith, nat_tests);
+      left_to = grind arith;
+      left_from = grind arith;
+      over_to = grind arith;
+      over_from = grind arith;
     }
 
 pub alike_past : (p : Label) (n : ℕ) (y : Label) (j k : ℕ) (r s : Label) → Low p n y → n ≤ j → n ≤ k
@@ -95,10 +84,10 @@ pub alike_past : (p : Label) (n : ℕ) (y : Label) (j k : ℕ) (r s : Label) →
 alike_past [] n [] j k r s h a b = record { left_to = refl; left_from = refl; over_to = refl; over_from = refl }
 alike_past [] n (i ∷ y) j k r s h a b =
     record {
-      left_to = grind (arith, nat_tests);
-      left_from = grind (arith, nat_tests);
-      over_to = grind (arith, nat_tests);
-      over_from = grind (arith, nat_tests);
+      left_to = grind arith;
+      left_from = grind arith;
+      over_to = grind arith;
+      over_from = grind arith;
     }
 alike_past (x ∷ p) n [] j k r s h a b = record { left_to = refl; left_from = refl; over_to = refl; over_from = refl }
 alike_past (x ∷ p) n (i ∷ y) j k r s h a b = go (cases_eq x i) (λ l. alike_past p n y j k r s l a b)
@@ -108,10 +97,10 @@ alike_past (x ∷ p) n (i ∷ y) j k r s h a b = go (cases_eq x i) (λ l. alike_
     go (inl e) rec =
         let q : Alike y (p ++ (j ∷ r)) (p ++ (k ∷ s)) = rec (h e) in
         record {
-          left_to = grind (arith, nat_tests);
-          left_from = grind (arith, nat_tests);
-          over_to = grind (arith, nat_tests);
-          over_from = grind (arith, nat_tests);
+          left_to = grind arith;
+          left_from = grind arith;
+          over_to = grind arith;
+          over_from = grind arith;
         }
     go (inr d) rec = alike_apart i x y (p ++ (j ∷ r)) (p ++ (k ∷ s)) d
 
@@ -204,29 +193,26 @@ pub under_cut : (a q : Label) (k : ℕ) → Under a (q ++ (k ∷ [])) → (a ≡
 under_cut [] q k u d = (q, refl)
 under_cut (x ∷ []) [] k u d = absurd (d (cc u.1))
 under_cut (x ∷ (y ∷ a)) [] k u d = let z : ◌≡◌ {A = ℕ} 0 1 = cc u.1 in absurd (let e : ⊥ = omega arith in e)
-under_cut (x ∷ a) (y ∷ q) k u d =
-    let e : x ≡ y = cc u.1 in
-    let v : Under a q = under_cut a q k (u.0, cc u.1) (λ f. d (ap₂ ◌∷◌ e f)) in
-    (v.0, cc v.1)
+under_cut (x ∷ a) (y ∷ q) k u d = grind (arith, under_cut a)
 
 pub left_none : (a b : Label) → a ≡ b → left a b ≡ false
-left_none a b e = subst (λ w. left a w ≡ false) e (is_false (left a a) (left_irrefl a))
+left_none a b e = grind (arith, left_irrefl)
 
 pub over_none : (a b : Label) → a ≡ b → over a b ≡ false
 over_none a b e = subst (λ w. over a w ≡ false) e (is_false (over a a) (λ h. left_irrefl a (over_left a a h)))
 
 -- a step in the child i of the node q, and one in a child j to the right of it
 pub turn_left : (q : Label) (i j : ℕ) (r s : Label) → i < j → left (q ++ (i ∷ r)) (q ++ (j ∷ s)) ≡ true
-turn_left q i j r s l = left_same q (i ∷ r) (j ∷ s) ∙ (grind (arith, nat_tests))
+turn_left q i j r s l = left_same q (i ∷ r) (j ∷ s) ∙ (grind arith)
 
 pub turn_right : (q : Label) (i j : ℕ) (r s : Label) → i < j → left (q ++ (j ∷ s)) (q ++ (i ∷ r)) ≡ false
-turn_right q i j r s l = left_same q (j ∷ s) (i ∷ r) ∙ (grind (arith, nat_tests))
+turn_right q i j r s l = left_same q (j ∷ s) (i ∷ r) ∙ (grind arith)
 
 pub turn_over : (q : Label) (i j : ℕ) (r s : Label) → i < j → over (q ++ (i ∷ r)) (q ++ (j ∷ s)) ≡ not (odd i)
-turn_over q i j r s l = over_same q (i ∷ r) (j ∷ s) ∙ (grind (arith, nat_tests))
+turn_over q i j r s l = over_same q (i ∷ r) (j ∷ s) ∙ (grind arith)
 
 pub turn_back : (q : Label) (i j : ℕ) (r s : Label) → i < j → over (q ++ (j ∷ s)) (q ++ (i ∷ r)) ≡ false
-turn_back q i j r s l = over_same q (j ∷ s) (i ∷ r) ∙ (grind (arith, nat_tests))
+turn_back q i j r s l = over_same q (j ∷ s) (i ∷ r) ∙ (grind arith)
 
 -- labels that part at q: one lies under the other only if they take the same turn
 part_turn : (q : Label) (i j : ℕ) (v w y z : Label) → y ≡ q ++ (i ∷ v) → z ≡ q ++ (j ∷ w) → Under y z → i ≡ j
@@ -253,10 +239,7 @@ module _ (y z : Label) (b : Beside y z) where
   beside_right = ap₂ left b.far_is b.near_is ∙ turn_right b.part b.near b.far b.near_tail b.far_tail b.apart
 
   pub beside_over : over y z ≡ false
-  beside_over =
-      let o : T (odd b.near) = b.tasked in
-      ap₂ over b.near_is b.far_is
-      ∙ turn_over b.part b.near b.far b.near_tail b.far_tail b.apart ∙ (grind (arith, nat_tests))
+  beside_over = grind (arith, turn_over)
 
   pub beside_back : over z y ≡ false
   beside_back = ap₂ over b.far_is b.near_is ∙ turn_back b.part b.near b.far b.near_tail b.far_tail b.apart

@@ -1,4 +1,5 @@
 -- An open keeps the shape: past the current step comes the node of the new finish, and the new step is the first one under it.
+use Rattle.std.proofs.lemmas.Bool.Decides.{nat_tests}
 use Rattle.std.proofs.Common.{◌≡◌, ℕ, suc, ◌<◌, ◌≤◌, true, not, T, ◌⊎◌, List, [], ◌∷◌, ◌++◌, sym, refl, ap, ◌∙◌, subst, inl, inr, append_assoc, arith}
 use Rattle.std.proofs.lemmas.Bool.{cases_lt}
 use Rattle.model.specs.Orders.{Order, Task, at_or_before, opened}
@@ -53,20 +54,10 @@ module _ (m : Order) (lab node : ℕ → Label) (by owner : ℕ → ℕ) (sh : S
         (i, 0 ∷ [], turn_i, lab_own) node_slot
 
     own_low : (x : ℕ) → x < n.steps → (x ≡ m.steps → ⊥) → Low (node m.finishes) 0 (lab x)
-    own_low x h d =
-        subst (λ z. Low z 0 (lab x)) (sym node_own)
-        (low_new here.path (suc here.turn) i [] 0 (lab x) (omega arith) (old_low sh t run x (omega arith)))
+    own_low x h d = grind (arith, nat_tests, low_new, old_low sh t run)
 
     own_node : (f : ℕ) → f < n.finishes → Low (node m.finishes) 0 (node f)
-    own_node f h = go (cases_lt f m.finishes)
-      where
-        go : (f < m.finishes) ⊎ (m.finishes ≤ f) → Low (node m.finishes) 0 (node f)
-        go (inl l) =
-            subst (λ z. Low z 0 (node f)) (sym node_own)
-            (low_new here.path here.turn i [] 0 (node f) (omega arith) (here.node_low f l))
-        go (inr l) =
-            let e : m.finishes ≡ f = omega arith in
-            subst (λ z. Low (node m.finishes) 0 (node z)) e (low_self (node m.finishes) 0)
+    own_node f h = grind (arith, nat_tests, low_new, low_self)
 
     -- the node of the new finish is the rightmost child
     level : Lows n lab node here.path (suc i)
@@ -74,15 +65,11 @@ module _ (m : Order) (lab node : ℕ → Label) (by owner : ℕ → ℕ) (sh : S
       where
         on_step : (x : ℕ) → x < n.steps → (x < m.steps) ⊎ (m.steps ≤ x) → Low here.path (suc i) (lab x)
         on_step x h (inl l) = low_more here.path (suc here.turn) (suc i) (lab x) (omega arith) (old_low sh t run x l)
-        on_step x h (inr l) =
-            let e : x ≡ m.steps = omega arith in
-            subst (Low here.path (suc i)) (sym (ap lab e ∙ lab_own)) (low_here here.path (suc i) i (0 ∷ []) (omega arith))
+        on_step x h (inr l) = grind (arith, low_here)
 
         on_node : (f : ℕ) → f < n.finishes → (f < m.finishes) ⊎ (m.finishes ≤ f) → Low here.path (suc i) (node f)
         on_node f h (inl l) = low_more here.path here.turn (suc i) (node f) (omega arith) (here.node_low f l)
-        on_node f h (inr l) =
-            let e : f ≡ m.finishes = omega arith in
-            subst (Low here.path (suc i)) (sym (ap node e ∙ node_own)) (low_here here.path (suc i) i [] (omega arith))
+        on_node f h (inr l) = grind (arith, low_here)
 
     own_held : (f : ℕ) → In f own.finishes → f < n.finishes
     own_held f (inl e) = omega arith
@@ -120,13 +107,7 @@ module _ (m : Order) (lab node : ℕ → Label) (by owner : ℕ → ℕ) (sh : S
     OpenBefore f = (f ≡ m.finishes) ⊎ IsOpen m f
 
     was_open : (v f : ℕ) → T (n.task v).running → In f (n.task v).finishes → OpenBefore f
-    was_open v f =
-        retask_case (λ k. T k.running → In f k.finishes → OpenBefore f) m.task t own v
-        (λ e go i. of_own i) (λ d go i. inr (v, go, i))
-      where
-        of_own : In f own.finishes → OpenBefore f
-        of_own (inl e) = inl e
-        of_own (inr i) = inr (t, run, i)
+    was_open v f = grind arith
 
     own_task : (f x : ℕ) → Fresh m 1 x → In f own.finishes → Covered n lab node f x
     own_task f x (h, k) i = own_here sh run place open_adds own tt own_fresh task_own task_other f x i (omega arith)
@@ -136,12 +117,7 @@ module _ (m : Order) (lab node : ℕ → Label) (by owner : ℕ → ℕ) (sh : S
     cover_all v f x go o h k = split (was_open v f go o) (cases_lt x m.steps)
       where
         none_yet : f ≡ m.finishes → x < m.steps → ⊥
-        none_yet e l =
-            let w : lab x ≡ here.path ++ (i ∷ k.0) =
-            k.1 ∙ ap (λ z. z ++ k.0) (ap node e ∙ node_own) ∙ append_assoc here.path (i ∷ []) k.0 in
-            let low = subst (Low here.path (suc here.turn)) w (old_low sh t run x l) in
-            let q : i < suc here.turn = low_turn here.path (suc here.turn) i k.0 low in
-            omega arith
+        none_yet e l = grind (arith, nat_tests, append_assoc, old_low sh t run, low_turn)
 
         split : OpenBefore f → (x < m.steps) ⊎ (m.steps ≤ x) → Covered n lab node f x
         split (inl e) (inl l) = absurd (none_yet e l)
@@ -152,19 +128,7 @@ module _ (m : Order) (lab node : ℕ → Label) (by owner : ℕ → ℕ) (sh : S
             (λ l i. own_task f x l (inr i))
 
     node_apart : (f g : ℕ) → f < n.finishes → g < n.finishes → node f ≡ node g → f ≡ g
-    node_apart f g h k e = go (cases_lt f m.finishes) (cases_lt g m.finishes)
-      where
-        new_node : (f g : ℕ) → f < m.finishes → g ≡ m.finishes → node f ≡ node g → ⊥
-        new_node f g l w e =
-            let low = subst (Low here.path here.turn) (e ∙ ap node w ∙ node_own) (here.node_low f l) in
-            let q : i < here.turn = low_turn here.path here.turn i [] low in
-            omega arith
-
-        go : (f < m.finishes) ⊎ (m.finishes ≤ f) → (g < m.finishes) ⊎ (m.finishes ≤ g) → f ≡ g
-        go (inl x) (inl y) = sh.node_apart f g x y e
-        go (inl x) (inr y) = absurd (new_node f g x (omega arith) e)
-        go (inr x) (inl y) = absurd (new_node g f y (omega arith) (sym e))
-        go (inr x) (inr y) = omega arith
+    node_apart f g h k e = grind (arith, nat_tests, low_turn, sh.node_apart)
 
     pub open_shape : Shape (opened m t) lab node by owner
     open_shape = added_shape sh run place open_adds node_apart runs_on cover_all

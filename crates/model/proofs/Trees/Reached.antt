@@ -1,6 +1,5 @@
 -- Every reached order has the shape of the tree that its calls grow, so its labels are that tree's, and the laws hold of it.
-use Rattle.std.proofs.Common.{◌≡◌, ℕ, ◌+◌, ◌<◌, T, eqb, List, [], ◌∷◌, sym, refl, ap, ◌∙◌, arith}
-use Rattle.std.proofs.lemmas.Bool.{cond-true, cond-false, eq-eqb, ne_eqb}
+use Rattle.std.proofs.Common.{◌≡◌, ℕ, ◌+◌, ◌<◌, T, List, [], ◌∷◌, sym, refl, ap, ◌∙◌, arith}
 use Rattle.model.specs.Lists.{head_or}
 use Rattle.model.specs.Orders.{Order, spawned, opened, closed, done}
 use Rattle.model.specs.Reached.{Reached, OrderLaws}
@@ -14,10 +13,10 @@ use Rattle.model.proofs.Trees.End.{end_shape}
 use Rattle.model.proofs.Trees.Start.{of_root, start_shape}
 
 put_at : {A : Type 0} (f : ℕ → A) (k : ℕ) (v : A) → put f k v k ≡ v
-put_at f k v = cond-true (eqb k k) v (f k) (eq-eqb k k refl)
+put_at f k v = grind arith
 
 put_below : {A : Type 0} (f : ℕ → A) (k : ℕ) (v : A) (x : ℕ) → x < k → f x ≡ put f k v x
-put_below f k v x h = sym (cond-false (eqb x k) v (f x) (ne_eqb x k (λ e. let z : ⊥ = omega arith in z)))
+put_below f k v x h = grind arith
 
 -- changed at two places
 put_first : {A : Type 0} (f : ℕ → A) (k : ℕ) (v w : A) → put (put f k v) (k + 1) w k ≡ v

@@ -1,13 +1,12 @@
 -- A spawn keeps the shape: past the current step come the first step of the child, in a task, and the next step of the task itself.
-use Rattle.std.proofs.Common.{◌≡◌, ℕ, suc, ◌+◌, ◌<◌, ◌≤◌, true, not, T, ◌⊎◌, [], ◌∷◌, ◌++◌, sym, refl, ap, ◌∙◌, subst, inl, inr, append_assoc, arith}
-use Rattle.std.proofs.lemmas.Bool.{cases_lt, cases_eq}
+use Rattle.std.proofs.Common.{◌≡◌, ℕ, ◌+◌, ◌<◌, ◌≤◌, true, not, T, ◌⊎◌, [], ◌∷◌, ◌++◌, sym, refl, ap, ◌∙◌, subst, inl, inr, append_assoc, arith}
 use Rattle.std.proofs.lemmas.Bool.Decides.{nat_tests}
 use Rattle.model.specs.Lists.{head_or}
 use Rattle.model.specs.Orders.{Order, Task, retask, at_or_before, spawned}
 use Rattle.model.specs.Labels.{Label, odd, Under, Low}
 use Rattle.model.specs.Shapes.{In, Above, Runner, Covered, Shape}
 use Rattle.model.proofs.Trees.Labels.{under_more, low_here, low_more, low_new, low_aside}
-use Rattle.model.proofs.Trees.Tasks.{stack_head, stack_in, stack_split, retask_case, retask_at, retask_off, IsOpen, Goes, by_task}
+use Rattle.model.proofs.Trees.Tasks.{stack_head, stack_in, stack_split, retask_case, retask_at, IsOpen}
 use Rattle.model.proofs.Trees.Grow.{Slot}
 use Rattle.model.proofs.Trees.Added.{Spot, Fresh, Adds, stack_more, on_other, on_new, own_here, own_inner, cover, added_shape}
 use Rattle.model.proofs.Trees.Turns.{old_low, own_keeps, turn_spot}
@@ -40,11 +39,7 @@ module _ (m : Order) (lab node : ℕ → Label) (by owner : ℕ → ℕ) (sh : S
     own_fresh = (omega arith, omega arith)
 
     one_of_two : (x : ℕ) → Fresh m 2 x → (x ≡ m.steps) ⊎ (x ≡ m.steps + 1)
-    one_of_two x (h, k) = go (cases_eq x m.steps)
-      where
-        go : (x ≡ m.steps) ⊎ (x ≡ m.steps → ⊥) → (x ≡ m.steps) ⊎ (x ≡ m.steps + 1)
-        go (inl e) = inl e
-        go (inr d) = inr (omega arith)
+    one_of_two x (h, k) = grind arith
 
     new_slot : (x : ℕ) → Fresh m 2 x → Slot here.path here.turn (lab x)
     new_slot x h = go (one_of_two x h)
@@ -54,14 +49,14 @@ module _ (m : Order) (lab node : ℕ → Label) (by owner : ℕ → ℕ) (sh : S
         go (inr e) = (j, [], omega arith, ap lab e ∙ lab_own)
 
     before_old : (a b : ℕ) → (b < m.steps) ⊎ (m.steps + 2 ≤ b) → n.before a b ≡ m.before a b
-    before_old a b (inl h) = grind (arith, nat_tests)
-    before_old a b (inr h) = grind (arith, nat_tests)
+    before_old a b (inl h) = grind arith
+    before_old a b (inr h) = grind arith
 
     before_new : (a b : ℕ) → Fresh m 2 b → n.before a b ≡ at_or_before m (m.task t).current a
-    before_new a b (h, k) = grind (arith, nat_tests)
+    before_new a b (h, k) = grind arith
 
     lives_more : (f u : ℕ) → T (m.lives f u) → T (n.lives f u)
-    lives_more f u h = grind (arith, nat_tests)
+    lives_more f u h = grind arith
 
     spawn_adds : Adds m n lab node t 2 here.path here.turn (at_or_before m (m.task t).current)
     spawn_adds =
@@ -93,28 +88,10 @@ module _ (m : Order) (lab node : ℕ → Label) (by owner : ℕ → ℕ) (sh : S
     seat_more f u v (inr l) = inr (lives_more f u l)
 
     own_low : (x : ℕ) → x < n.steps → (x ≡ own.current → ⊥) → Low here.path j (lab x)
-    own_low x h d = go (cases_lt x m.steps)
-      where
-        new : (x ≡ m.steps) ⊎ (x ≡ m.steps + 1) → Low here.path j (lab x)
-        new (inl e) = subst (Low here.path j) (sym (ap lab e ∙ lab_child)) (low_here here.path j i (0 ∷ []) i_j)
-        new (inr e) = absurd (d e)
-
-        go : (x < m.steps) ⊎ (m.steps ≤ x) → Low here.path j (lab x)
-        go (inl l) = low_more here.path (suc here.turn) j (lab x) (omega arith) (old_low sh t run x l)
-        go (inr l) = new (one_of_two x (l, h))
+    own_low x h d = grind (arith, nat_tests, low_here, low_more, old_low sh t run, one_of_two)
 
     child_low : (x : ℕ) → x < n.steps → (x ≡ child.current → ⊥) → Low (here.path ++ (i ∷ [])) 0 (lab x)
-    child_low x h d = go (cases_lt x m.steps)
-      where
-        new : (x ≡ m.steps) ⊎ (x ≡ m.steps + 1) → Low (here.path ++ (i ∷ [])) 0 (lab x)
-        new (inl e) = absurd (d e)
-        new (inr e) =
-            subst (Low (here.path ++ (i ∷ [])) 0) (sym (ap lab e ∙ lab_own))
-            (low_aside here.path i [] 0 j [] (λ e. let z : ⊥ = omega arith in z))
-
-        go : (x < m.steps) ⊎ (m.steps ≤ x) → Low (here.path ++ (i ∷ [])) 0 (lab x)
-        go (inl l) = low_new here.path (suc here.turn) i [] 0 (lab x) (omega arith) (old_low sh t run x l)
-        go (inr l) = new (one_of_two x (l, h))
+    child_low x h d = grind (arith, nat_tests, low_aside, low_new, old_low sh t run, one_of_two)
 
     -- the innermost finish of t, which the child lives in
     abbrev inner : ℕ
@@ -131,7 +108,7 @@ module _ (m : Order) (lab node : ℕ → Label) (by owner : ℕ → ℕ) (sh : S
     child_held f (inr e) = absurd e
 
     child_seat : (f : ℕ) → In f (inner ∷ []) → (owner f ≡ m.tasks) ⊎ T (n.lives f m.tasks)
-    child_seat f (inl e) = inr (grind (arith, nat_tests))
+    child_seat f (inl e) = inr (grind arith)
     child_seat f (inr e) = absurd e
 
     child_owns : (g f : ℕ) → Above g f (inner ∷ []) → (owner g ≡ m.tasks) × (f < g)
@@ -164,27 +141,14 @@ module _ (m : Order) (lab node : ℕ → Label) (by owner : ℕ → ℕ) (sh : S
     task_child = retask_at (retask m.task t own) m.tasks child
 
     task_own : n.task t ≡ own
-    task_own =
-        retask_off (retask m.task t own) m.tasks child t (λ e. let h = here.held in let z : ⊥ = omega arith in z)
-        ∙ retask_at m.task t own
+    task_own = grind arith
 
     task_other : (u : ℕ) → T (m.task u).running → (u ≡ t → ⊥) → n.task u ≡ m.task u
-    task_other u go d =
-        retask_off (retask m.task t own) m.tasks child u (λ e. let h = (sh.runner u go).held in let z : ⊥ = omega arith in z)
-        ∙ retask_off m.task t own u d
+    task_other u go d = grind arith
 
     -- a finish that is open was open
     was_open : (v f : ℕ) → T (n.task v).running → In f (n.task v).finishes → IsOpen m f
-    was_open v f =
-        retask_case (λ k. T k.running → In f k.finishes → IsOpen m f) (retask m.task t own) m.tasks child v
-        (λ e go i. (t, run, in_inner i))
-        (λ d. retask_case (λ k. T k.running → In f k.finishes → IsOpen m f) m.task t own v
-        (λ e go i. (t, run, i))
-        (λ d go i. (v, go, i)))
-      where
-        in_inner : In f (inner ∷ []) → In f (m.task t).finishes
-        in_inner (inl e) = subst (λ z. In z (m.task t).finishes) (sym e) inner_in
-        in_inner (inr e) = absurd e
+    was_open v f = grind arith
 
     inside : (f x g : ℕ) → Above g f (m.task t).finishes → Under (node g) (lab x) → Covered n lab node f x
     inside = own_inner sh run place spawn_adds own tt own_fresh task_own task_other
@@ -195,9 +159,7 @@ module _ (m : Order) (lab node : ℕ → Label) (by owner : ℕ → ℕ) (sh : S
     cover_new f x z (inl e) i = split (stack_split f (m.task t).finishes i)
       where
         split : (f ≡ inner) ⊎ Above inner f (m.task t).finishes → Covered n lab node f x
-        split (inl k) =
-            let at : T (at_or_before n m.steps x) = subst (λ w. T (at_or_before n m.steps w)) (sym e) (grind (arith, nat_tests)) in
-            by_task n lab node f x m.tasks (subst (Goes n f x) (sym task_child) (tt, inl k, at))
+        split (inl k) = grind (arith, task_child)
         split (inr a) =
             inside f x inner a
             (subst (Under (node inner)) (sym z.3) (under_more (node inner) here.path (z.0 ∷ z.1) inner_over))

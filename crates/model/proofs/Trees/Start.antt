@@ -1,5 +1,5 @@
 -- The shape of an order at its start: one task, on step 0 under the root.
-use Rattle.std.proofs.Common.{◌≡◌, ℕ, ◌<◌, Bool, true, false, cond, T, eqb, [], ◌∷◌, sym, refl, subst, inl, inr, arith}
+use Rattle.std.proofs.Common.{◌≡◌, ℕ, ◌<◌, true, T, [], ◌∷◌, refl, inl, inr, arith}
 use Rattle.std.proofs.lemmas.Bool.Decides.{nat_tests}
 use Rattle.model.specs.Orders.{Order, Task, no_task, emptied}
 use Rattle.model.specs.Trees.{planted}
@@ -51,15 +51,10 @@ module _ (limit : ℕ) where
       alone g f (inr a) = absurd a
 
   by_root : (P : Task → Type 0) (u : ℕ) → (u ≡ 0 → P root) → P no_task → P (n.task u)
-  by_root P u a b = go (eqb u 0) refl
-    where
-      go : (c : Bool) → eqb u 0 ≡ c → P (cond c root no_task)
-      go true e = a (grind (arith, nat_tests))
-      go false e = b
+  by_root P u a b = grind arith
 
   runs_on : (u : ℕ) → T (n.task u).running → RootRunner u (n.task u)
-  runs_on u =
-      by_root (λ k. T k.running → RootRunner u k) u (λ e go. subst (λ z. RootRunner z root) (sym e) on_root) (λ go. absurd go)
+  runs_on u = grind (arith, nat_tests, on_root)
 
   root_in : (f v : ℕ) → T (n.task v).running → In f (n.task v).finishes → In f (0 ∷ [])
   root_in f v = by_root (λ k. T k.running → In f k.finishes → In f (0 ∷ [])) v (λ e go i. i) (λ go i. absurd go)
@@ -79,5 +74,5 @@ module _ (limit : ℕ) where
         last_held = λ f l h. absurd h;
         last_under = λ f l h. absurd h;
         runner = runs_on;
-        covered = λ v f x go i h k. inl (0, tt, root_in f v go i, (grind (arith, nat_tests)));
+        covered = λ v f x go i h k. inl (0, tt, root_in f v go i, (grind arith));
       }

@@ -1,4 +1,5 @@
 -- The shape through each call, with the labels that the call gives to its new steps and to a new finish.
+use Rattle.std.proofs.lemmas.Bool.Decides.{nat_tests}
 use Rattle.std.proofs.Common.{◌≡◌, ℕ, suc, ◌+◌, Bool, true, false, not, T, List, [], ◌∷◌, ap, ◌∙◌, arith}
 use Rattle.model.specs.Orders.{Order, spawned, opened, closed}
 use Rattle.model.specs.Labels.{Label, odd, child_of, next_of, inner_of}
@@ -37,6 +38,4 @@ module _ (m : Order) (lab node : ℕ → Label) (by owner : ℕ → ℕ) (sh : S
       → lab m.steps ≡ next_of (node f) → by m.steps ≡ t → Shape (closed m t) lab node by owner
   close_kept f g fs fin empty at_own by_own =
       let l = level m lab node by owner sh t run f g fs fin empty in
-      close_shape m lab node by owner sh t run f g fs fin empty (suc (suc l.1)) (omega arith) (even_on (odd l.1) l.4)
-      (at_own ∙ ap next_of (at_f m lab node by owner sh t run f g fs fin empty)
-      ∙ turned_at (λ n. suc (suc n) ∷ []) l.0 l.1) by_own
+      grind (arith, nat_tests, close_shape, empty, even_on, at_f, turned_at)

@@ -1,12 +1,9 @@
 -- Running tasks of a shape: their finishes, the steps that they are on, and the ways in which they cover a step.
-use Rattle.std.proofs.Common.{◌≡◌, ℕ, ◌<◌, ◌≤◌, Bool, true, false, cond, T, eqb, ◌⊎◌, List, [], ◌∷◌, sym, refl, ap, ◌∙◌, subst, inl, inr, arith}
-use Rattle.std.proofs.lemmas.Bool.{cases_eq}
-use Rattle.std.proofs.lemmas.Bool.Decides.{nat_tests}
+use Rattle.std.proofs.Common.{◌≡◌, ℕ, ◌<◌, ◌≤◌, false, T, ◌⊎◌, List, [], ◌∷◌, sym, refl, ap, ◌∙◌, subst, inl, inr, arith}
 use Rattle.model.specs.Lists.{head_or}
 use Rattle.model.specs.Orders.{Order, Task, retask, at_or_before}
 use Rattle.model.specs.Labels.{Label, Under}
 use Rattle.model.specs.Shapes.{In, Above, Stack, Covered, Shape}
-use Rattle.model.proofs.Shelf.Tests.{is_false}
 use Rattle.model.proofs.Trees.Labels.{under_refl}
 
 -- the innermost finish of a task lies over where the task is
@@ -28,11 +25,7 @@ stack_split f (x ∷ fs) (inr i) = inr (inl (refl, i))
 -- after one task is changed: that one, or another
 pub retask_case : (P : Task → Type 0) (task : ℕ → Task) (t : ℕ) (new : Task) (u : ℕ)
     → (u ≡ t → P new) → ((u ≡ t → ⊥) → P (task u)) → P (retask task t new u)
-retask_case P task t new u a b = go (eqb u t) refl
-  where
-    go : (c : Bool) → eqb u t ≡ c → P (cond c new (task u))
-    go true e = a (grind (arith, nat_tests))
-    go false e = b (grind (arith, nat_tests))
+retask_case P task t new u a b = grind arith
 
 pub retask_at : (task : ℕ → Task) (t : ℕ) (new : Task) → retask task t new t ≡ new
 retask_at task t new = retask_case (λ k. k ≡ new) task t new t (λ e. refl) (λ d. absurd (d refl))
@@ -68,22 +61,14 @@ by_last n lab node f x l h k = inr (inl (l, h, k))
 
 module _ {m : Order} {lab node : ℕ → Label} {by owner : ℕ → ℕ} (sh : Shape m lab node by owner) where
   pub no_before : (a b : ℕ) → m.steps ≤ a → m.before a b ≡ false
-  no_before a b h = is_false (m.before a b) (λ k. let l = (sh.before_held a b k).0 in let z : ⊥ = omega arith in z)
+  no_before a b h = grind arith
 
   pub at_held : (s a : ℕ) → s < m.steps → T (at_or_before m s a) → a < m.steps
-  at_held s a h k = go (cases_eq a s)
-    where
-      go : (a ≡ s) ⊎ (a ≡ s → ⊥) → a < m.steps
-      go (inl e) = omega arith
-      go (inr d) = (sh.before_held a s (grind (arith, nat_tests))).0
+  at_held s a h k = grind arith
 
   -- a running task's current step is at or before no step but itself
   pub not_at : (s u : ℕ) → T (m.task u).running → T (at_or_before m s (m.task u).current) → (m.task u).current ≡ s
-  not_at s u go k = split (cases_eq (m.task u).current s)
-    where
-      split : ((m.task u).current ≡ s) ⊎ ((m.task u).current ≡ s → ⊥) → (m.task u).current ≡ s
-      split (inl e) = e
-      split (inr d) = absurd ((sh.runner u go).tip s (grind (arith, nat_tests)))
+  not_at s u go k = grind arith
 
   pub current_apart : (t u : ℕ) → T (m.task t).running → T (m.task u).running → (m.task t).current ≡ (m.task u).current → t ≡ u
   current_apart t u a b e = sym (sh.runner t a).current_by ∙ ap by e ∙ (sh.runner u b).current_by
@@ -91,7 +76,6 @@ module _ {m : Order} {lab node : ℕ → Label} {by owner : ℕ → ℕ} (sh : S
   -- what covers the current step: a finish of its own task, or a finish inside
   pub current_covered : (t : ℕ) → T (m.task t).running → (f : ℕ) → Covered m lab node f (m.task t).current
       → In f (m.task t).finishes ⊎ Inner m lab node f (m.task t).current
-  current_covered t run f (inl (u, go, i, k)) =
-      inl (subst (λ z. In f (m.task z).finishes) (sym (current_apart t u run go (not_at (m.task u).current t run k))) i)
+  current_covered t run f (inl (u, go, i, k)) = grind arith
   current_covered t run f (inr (inl (l, h, k))) = absurd ((sh.runner t run).going f l h (not_at l t run k))
   current_covered t run f (inr (inr c)) = inr c

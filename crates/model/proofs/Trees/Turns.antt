@@ -25,20 +25,11 @@ module _ {m : Order} {lab node : ℕ → Label} {by owner : ℕ → ℕ} (sh : S
 
   -- every step turns at most where the current one does
   pub old_low : (x : ℕ) → x < m.steps → Low here.path (suc here.turn) (lab x)
-  old_low x h = go (cases_eq x now)
-    where
-      go : (x ≡ now) ⊎ (x ≡ now → ⊥) → Low here.path (suc here.turn) (lab x)
-      go (inl e) =
-          subst (Low here.path (suc here.turn)) (sym (ap lab e ∙ here.at))
-          (low_here here.path (suc here.turn) here.turn [] (omega arith))
-      go (inr d) = low_more here.path here.turn (suc here.turn) (lab x) (omega arith) (here.step_low x h d)
+  old_low x h = grind (arith, nat_tests, low_here, low_more)
 
   -- no finish has the node of the current step
   not_finish : (y : ℕ) → y < m.finishes → node y ≡ child → ⊥
-  not_finish y h e =
-      let low : Low here.path here.turn child = subst (Low here.path here.turn) e (here.node_low y h) in
-      let l = low_turn here.path here.turn here.turn [] low in
-      omega arith
+  not_finish y h e = grind (arith, low_turn)
 
   pub own_keeps : (y : ℕ) → In y (m.task t).finishes → (y < m.finishes) × (node y ≡ child → ⊥)
   own_keeps y i = (here.finish_held y i, not_finish y (here.finish_held y i))
@@ -51,7 +42,7 @@ module _ {m : Order} {lab node : ℕ → Label} {by owner : ℕ → ℕ} (sh : S
     where
       go : (x ≡ now) ⊎ (x ≡ now → ⊥) → T (m.before x now)
       go (inl e) = absurd (d (subst (Under child) (sym (ap lab e ∙ here.at)) (under_refl child)))
-      go (inr o) = grind (arith, nat_tests)
+      go (inr o) = grind arith
 
   pub turn_spot : Spot m lab node t here.path here.turn (at_or_before m now)
   turn_spot =
@@ -70,7 +61,7 @@ module _ {m : Order} {lab node : ℕ → Label} {by owner : ℕ → ℕ} (sh : S
             let at : Under (node y) child = subst (Under (node y)) here.at u in
             under_low here.path here.turn (node y) here.turn [] (here.node_low y h) (omega arith) at;
         joined_held = λ x w. at_held sh now x here.current_held w;
-        joined_in = λ x h u. let e : now ≡ x = only_now x h u in or_l (eqb x now) (m.before x now) (grind (arith, nat_tests));
+        joined_in = λ x h u. let e : now ≡ x = only_now x h u in or_l (eqb x now) (m.before x now) (grind arith);
         joined_out = joined_out;
         joined_before = λ x w. or_r (eqb x now) (m.before x now) w;
         joined_tip = λ u go d w. d (current_apart sh u t go run (not_at sh now u go w));

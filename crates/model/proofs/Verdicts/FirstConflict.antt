@@ -1,6 +1,7 @@
 -- The race that a run names is its first conflict that nothing orders, and such a conflict is always named.
+use Rattle.std.proofs.lemmas.Option.{same_Some}
+use Rattle.std.proofs.lemmas.Bool.Decides.{nat_tests}
 use Rattle.std.proofs.Common.{◌≡◌, ℕ, suc, ◌<◌, T, [], ◌∷◌, length, Some, None, sym, refl, ◌∙◌, subst, inl, inr, arith}
-use Rattle.std.proofs.lemmas.Bool.{cases_order}
 use Rattle.model.specs.declared.Event.{Event}
 use Rattle.model.specs.declared.Race.{Race}
 use Rattle.model.specs.Past.{Past, at}
@@ -8,7 +9,7 @@ use Rattle.model.specs.Before.{before}
 use Rattle.model.specs.Cells.{CellKind, reads, writes}
 use Rattle.model.specs.Rules.{Limits}
 use Rattle.model.specs.Laws.{Clean, RacedBy, of_kind, Unordered, FirstNamed}
-use Rattle.model.proofs.Shelf.Tests.{or_l, some_inj, none_some}
+use Rattle.model.proofs.Shelf.Tests.{or_l}
 use Rattle.model.proofs.Shelf.Places.{at_new, at_old, at_lt, at_grow}
 use Rattle.model.proofs.Shelf.Befores.{before_old}
 use Rattle.model.proofs.Orderings.Races.{Clash, raced_clash, raced_latest, sides}
@@ -62,20 +63,14 @@ module _ {C : Type 0} (k : CellKind C) where
     -- in a raced past the second place of each is the latest
     raced_last : (l : Limits) (h : Past C) (r : Race C) → RacedBy k l h r → (i j : ℕ) → Unordered k h i j → suc j ≡ length h
     raced_last l [] r q i j u = elim q [ ]
-    raced_last l (e ∷ h) r q i j u =
-        let b = at_lt (e ∷ h) j u.other u.at_other in
-        elim (cases_order j (length h)) [
-          | inl g ↦ omega arith
-          | inr (inl g) ↦ absurd (clean_none l h q.1 i j (unordered_old e h i j g u))
-          | inr (inr g) ↦ omega arith
-        ]
+    raced_last l (e ∷ h) r q i j u = grind (arith, nat_tests, at_lt, clean_none, unordered_old)
 
     pub first_named : (l : Limits) → FirstNamed k l
     first_named l h None q =
         record {
           found = λ i j u. absurd (clean_none l h q i j u);
-          shown = λ r e. none_some e;
-          described = λ r e. none_some e;
+          shown = λ r e. cc;
+          described = λ r e. cc;
         }
     first_named l h (Some r) q =
         record {
@@ -83,6 +78,6 @@ module _ {C : Type 0} (k : CellKind C) where
               let x = raced_last l h r q i j u in
               let y = raced_latest k l h r q in
               (r, refl, omega arith, λ (a b : ℕ) (lt : b < j) v. (let z = raced_last l h r q a b v in omega arith));
-          shown = λ s e. subst (λ (x : Race C). Unordered k h x.first x.second) (some_inj e) (raced_unordered l h r q);
-          described = λ s e. subst (λ (x : Race C). Described h x) (some_inj e) (raced_kind k l h r q);
+          shown = λ s e. subst (λ (x : Race C). Unordered k h x.first x.second) (same_Some _ _ e) (raced_unordered l h r q);
+          described = λ s e. subst (λ (x : Race C). Described h x) (same_Some _ _ e) (raced_kind k l h r q);
         }

@@ -1,12 +1,11 @@
 -- The kind and the cell of a race are those of its two accesses.
-use Rattle.std.proofs.Common.{◌≡◌, T, [], ◌∷◌, Some, sym, ◌∙◌, subst₂}
+use Rattle.std.proofs.Common.{◌≡◌, T, [], ◌∷◌, Some, arith}
 use Rattle.model.specs.declared.Event.{Event}
 use Rattle.model.specs.declared.Race.{Race}
 use Rattle.model.specs.Past.{Past, at}
 use Rattle.model.specs.Cells.{CellKind}
 use Rattle.model.specs.Rules.{Limits}
 use Rattle.model.specs.Laws.{RacedBy, of_kind}
-use Rattle.model.proofs.Shelf.Tests.{some_inj}
 use Rattle.model.proofs.Shelf.Places.{at_new, at_grow}
 use Rattle.model.proofs.Orderings.Races.{raced_clash}
 
@@ -18,4 +17,4 @@ module _ {C : Type 0} (k : CellKind C) where
       let w = raced_clash k l f h r q in
       let old = at_grow h f r.first w.it w.found in
       let new = at_new h f r.second w.latest in
-      subst₂ (λ (x y : Event C). T (of_kind k r.kind r.cell x y)) (some_inj (sym old ∙ a)) (some_inj (sym new ∙ b)) w.touch
+      grind arith

@@ -1,5 +1,5 @@
 -- What a reply says of where the run stands: a refusal and a stop leave it as it was, and a verdict tells it.
-use Rattle.std.proofs.Common.{◌≡◌, ℕ, Bool, true, false, cond, eqb, length, Some, None, Option, sym, refl, ap, ◌∙◌, inl, inr, arith, eqb→eq}
+use Rattle.std.proofs.Common.{◌≡◌, ℕ, Bool, true, false, cond, eqb, length, Some, None, Option, sym, refl, ap, ◌∙◌, inl, inr, arith}
 use Rattle.model.specs.declared.Event.{Event}
 use Rattle.model.specs.declared.Race.{Race}
 use Rattle.model.specs.declared.Stage.{Stage}
@@ -9,8 +9,7 @@ use Rattle.model.specs.declared.Call.TheVariants.{Feed, Seal}
 use Rattle.model.specs.Cells.{CellKind}
 use Rattle.model.specs.Rules.{Answer, taken, refused, judge}
 use Rattle.model.specs.Runs.{Opening, Standing, Reply, took, stopped, turned_away, gave_verdict, named}
-use Rattle.model.specs.Runs.{answer_reply, seal_reply, reply_by, moved_by, answer_to, Sealing}
-use Rattle.model.proofs.Shelf.Tests.{tried, cond_yes, cond_no}
+use Rattle.model.specs.Runs.{answer_reply, reply_by, moved_by, answer_to, Sealing}
 
 module _ {C : Type 0} where
   turned_still : (s : Standing C) (c : Call C) (n p : ℕ) → moved_by s c (turned_away n p) ≡ s
@@ -72,24 +71,6 @@ module _ {C : Type 0} where
     abbrev Tells : Option (Race C) → ℕ → ℕ → Option (Race C) → ℕ → Type 0
     Tells d j i m x = (j ≡ own) × (i ≡ own) × (m ≡ d) × (x ≡ n)
 
-    seal_tells : (d : Option (Race C)) (j i x : ℕ) (m : Option (Race C)) → seal_reply own n d j ≡ gave_verdict i m x → Tells d j i m x
-    seal_tells d j i x m q = elim (tried (eqb j own)) [
-      | inl t ↦ told (eqb→eq j own t) (sym (cond_yes (eqb j own) (gave_verdict own d n) (turned_away 12 n) t) ∙ q)
-      | inr f ↦ not_told (sym (cond_no (eqb j own) (gave_verdict own d n) (turned_away 12 n) f) ∙ q)
-    ]
-      where
-        told : j ≡ own → ◌≡◌ {A = Reply C} (gave_verdict own d n) (gave_verdict i m x) → Tells d j i m x
-        told e z = (e, cc, cc, cc)
-
-        not_told : ◌≡◌ {A = Reply C} (turned_away 12 n) (gave_verdict i m x) → Tells d j i m x
-        not_told z = let y : ◌≡◌ {A = ℕ} 0 1 = cc in absurd (omega arith)
-
-    reply_tells : (g : Stage C) (j i x : ℕ) (m : Option (Race C))
-        → reply_by says own n g (Seal j) ≡ gave_verdict i m x → Tells (named g) j i m x
-    reply_tells Feeding j i x m q = seal_tells None j i x m q
-    reply_tells (Raced r) j i x m q = seal_tells (Some r) j i x m q
-    reply_tells (Sealed r) j i x m q = let z : ◌≡◌ {A = ℕ} 0 1 = cc in absurd (omega arith)
-
 module _ {C : Type 0} (k : CellKind C) (o : Opening) (s : Standing C) where
   -- what the rules say to an event here
   abbrev says : Event C → Answer C
@@ -111,9 +92,7 @@ module _ {C : Type 0} (k : CellKind C) (o : Opening) (s : Standing C) where
   pub sealed_tells : (j i n : ℕ) (m : Option (Race C)) → answer_to k o s (Seal j) ≡ gave_verdict i m n
       → (moved_by s (Seal j) (answer_to k o s (Seal j)) ≡ record { past = s.past; stage = Sealed (named s.stage) })
       × (j ≡ o.job) × (i ≡ o.job) × (m ≡ named s.stage) × (n ≡ count)
-  sealed_tells j i n m q =
-      let t = reply_tells says o.job count s.stage j i n m q in
-      (ap (moved_by s (Seal j)) q ∙ ap (λ x. record { past = s.past; stage = Sealed x }) t.2, t.0, t.1, t.2, t.3)
+  sealed_tells j i n m q = grind arith
 
   cut : (m : Option (Race C)) (j : ℕ) (b : Bool) → Sealing k o m count j (cond b (gave_verdict o.job m count) (turned_away 12 count))
   cut m j true = inl (refl, refl)
@@ -121,8 +100,7 @@ module _ {C : Type 0} (k : CellKind C) (o : Opening) (s : Standing C) where
 
   stage_spent : (g : Stage C) (j : ℕ) → Sealing k o (named g) count j (reply_by says o.job count g (Seal j))
   stage_spent Feeding j = cut None j (eqb j o.job)
-  stage_spent (Raced r) j = cut (Some r) j (eqb j o.job)
-  stage_spent (Sealed r) j = inr (inl refl, refl)
+  stage_spent e j = grind arith
 
   pub token_spent : (j : ℕ) → Sealing k o (named s.stage) count j (answer_to k o s (Seal j))
   token_spent j = stage_spent s.stage j
