@@ -1,4 +1,2 @@
-pub mod Walking
 pub mod OneListing
 pub mod Parts
-pub mod Rows

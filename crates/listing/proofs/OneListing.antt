@@ -1,5 +1,5 @@
 -- A file is listed in one way: each of its parts is, and no event begins where its events stop.
-use Rattle.std.proofs.Common.{◌≡◌, ℕ, ◌+◌, ◌^◌, ◌<◌, List, [], ◌∷◌, ◌++◌, length, Some, None, Option, sym, refl, ap, ◌∙◌, subst, inl, inr, arith}
+use Rattle.std.proofs.Common.{◌≡◌, ℕ, ◌+◌, ◌^◌, ◌<◌, List, [], ◌∷◌, ◌++◌, length, Some, None, Ok, Err, Option, Result, vec_items, sym, refl, ap, ◌∙◌, inl, inr, arith}
 use Rattle.std.specs.List.{AllByRecursion}
 use Rattle.std.proofs.lemmas.List.{append_assoc, append-nil}
 use Rattle.model.specs.declared.Cell.{Cell}
@@ -11,7 +11,11 @@ use Rattle.record.specs.Events.{event_form, Writable, EventRead, EventRefused}
 use Rattle.record.proofs.OneNumber.{numbers_apart, number_not_refused, number_one_fault}
 use Rattle.record.proofs.OneEvent.{events_apart, event_not_refused, event_one_fault}
 use Rattle.record.proofs.OneHeading.{heading_back, heading_not_refused, heading_one_fault}
-use Rattle.listing.specs.Files.{events_form, EventsRead, NoJob, Listed, OnlyListing, ReadsBack, WritesBack}
+use Rattle.listing.specs.declared.error.ListError.{ListError}
+use Rattle.listing.specs.declared.error.ListError.TheVariants.{Refused, OutOfMemory}
+use Rattle.listing.specs.declared.file.Listing.{Listing}
+use Rattle.listing.specs.Listings.{Tells}
+use Rattle.listing.specs.Files.{events_form, EventsRead, NoJob, Listed, OnlyListing, ReadsBack}
 
 -- what follows the events, at place `at`: nothing, or what f refuses
 abbrev Ends : ℕ → List ℕ → Option ByteRefusal → Type 0
@@ -68,8 +72,7 @@ only_events from bs es es' f f' p q =
     let v : Parted from bs es' f' = parted from bs es' f' q in
     let place : List (Event Cell) → ℕ = λ ds. from + length (events_form ds) in
     let once : (es ≡ es') × (u.rest ≡ v.rest) = events_once es es' u.rest v.rest u.all v.all (none_left (place es) u.rest f u.ends) (none_left (place es') v.rest f' v.ends) (sym u.cut ∙ v.cut) in
-    let moved : Ends (place es) v.rest f' = subst (λ (ds : List (Event Cell)). Ends (place ds) v.rest f') (sym once.0) v.ends in
-    let there : Ends (place es) u.rest f' = subst (λ (rest : List ℕ). Ends (place es) rest f') (sym once.1) moved in
+    let there : Ends (place es) u.rest f' = rw (once.1, once.0) v.ends in
     (once.0, one_end (place es) u.rest f f' u.ends there)
 
 no_job_once : (bs : List ℕ) (f g : ByteRefusal) → NoJob bs f → NoJob bs g → f ≡ g
@@ -106,7 +109,14 @@ only_listing bs (Some m) es f h (Some n) es' f' k =
 pub reads_back : (bs : List ℕ) (job : Option ℕ) (es : List (Event Cell)) (f : Option ByteRefusal) → Listed bs job es f → ReadsBack bs job es f
 reads_back bs job es f h n ds fits e = only_listing bs job es f h (Some n) ds None (fits.0, (events_form ds, e, (fits.1, refl)))
 
-pub writes_back : (bs : List ℕ) (job : Option ℕ) (es : List (Event Cell)) (f : Option ByteRefusal) → Listed bs job es f → WritesBack bs job es f
-writes_back bs job es f h n p q =
-    let k : Listed bs (Some n) es None = rw (p, q) at h in
-    ((k.0, k.1.2.0), k.1.1 ∙ ap (λ (rest : List ℕ). heading ++ (number_form n ++ rest)) k.1.2.1)
+-- what follows of each listing follows of an answer
+told_more : (P Q : Option ℕ → List (Event Cell) → Option ByteRefusal → Type 0) → ((job : Option ℕ) (es : List (Event Cell)) (f : Option ByteRefusal) → P job es f → Q job es f) → (r : Result Listing ListError) → Tells P r → Tells Q r
+told_more P Q on (Ok l) h = on (Some l.job) (vec_items l.events) l.fault h
+told_more P Q on (Err (Refused f)) h = on None [] (Some f) h
+told_more P Q on (Err (OutOfMemory e)) h = tt
+
+pub only_told : (bs : List ℕ) (r : Result Listing ListError) → Tells (Listed bs) r → Tells (OnlyListing bs) r
+only_told bs = told_more (Listed bs) (OnlyListing bs) (only_listing bs)
+
+pub read_back_told : (bs : List ℕ) (r : Result Listing ListError) → Tells (Listed bs) r → Tells (ReadsBack bs) r
+read_back_told bs = told_more (Listed bs) (ReadsBack bs) (reads_back bs)

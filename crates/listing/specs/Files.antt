@@ -4,10 +4,12 @@ use Rattle.std.specs.List.{flat_map, AllByRecursion}
 use Rattle.model.specs.declared.Cell.{Cell}
 use Rattle.model.specs.declared.Event.{Event}
 use Rattle.record.specs.declared.fault.ByteRefusal.{ByteRefusal}
+use Rattle.record.specs.declared.writer.Writer.{Writer}
 use Rattle.record.specs.Numbers.{number_form, InRange, NumberRefused}
 use Rattle.record.specs.Heading.{heading, HeadingRead, HeadingRefused}
 use Rattle.record.specs.Events.{numbers_of, event_form, file_form, Writable, EventRefused}
 use Rattle.record.specs.Writes.{laid, WriteRefused}
+use Rattle.record.specs.Writers.{SameBuffer}
 
 -- one event after another
 abbrev pub events_form : List (Event Cell) → List ℕ
@@ -95,6 +97,11 @@ pub record WriteStopped (parts : List Part) (buf : List ℕ) (from : ℕ) (r : B
 abbrev pub PartsWritten : List Part → List ℕ → ℕ → Result ℕ ByteRefusal → List ℕ → Type 0
 PartsWritten ps buf from (Ok end) after = AllByRecursion (λ p. InRange p.0) ps × (from + length (parts_form ps) ≤ length buf) × (end ≡ from + length (parts_form ps)) × (after ≡ laid buf from (parts_form ps))
 PartsWritten ps buf from (Err r) after = WriteStopped ps buf from r after
+
+-- the same of the parts that are written by the writer w, which is v after it
+abbrev pub PartsCall : List Part → Writer → Result (Unit {0}) ByteRefusal → Writer → Type 0
+PartsCall ps w (Ok u) v = SameBuffer w v × PartsWritten ps w.buf.now w.place (Ok v.place) v.buf.now
+PartsCall ps w (Err r) v = SameBuffer w v × PartsWritten ps w.buf.now w.place (Err r) v.buf.now
 
 -- a file written from the start of a buffer: all of it, every other byte as before; or a number has no form, or there is
 -- no room

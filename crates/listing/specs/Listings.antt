@@ -1,27 +1,21 @@
--- What a listing says of its file.
-use Rattle.std.specs.Prelude.{ℕ, List, [], Some, None, vec_items, Option}
+-- What the answer to a call for a listing says of the file, and how an error is shown.
+use Rattle.std.specs.Prelude.{ℕ, List, [], Some, None, Ok, Err, codes, vec_items, Option, Result}
 use Rattle.model.specs.declared.Cell.{Cell}
 use Rattle.model.specs.declared.Event.{Event}
 use Rattle.record.specs.declared.fault.ByteRefusal.{ByteRefusal}
+use Rattle.record.specs.Faults.{refusal_text}
+use Rattle.listing.specs.declared.error.ListError.{ListError}
+use Rattle.listing.specs.declared.error.ListError.TheVariants.{Refused, OutOfMemory}
 use Rattle.listing.specs.declared.file.Listing.{Listing}
-use Rattle.listing.specs.declared.file.Listing.TheVariants.{NoJob, Job}
-use Rattle.listing.specs.Files.{Listed}
 
--- the job number, if one was read
-abbrev pub job_of : Listing → Option ℕ
-job_of (NoJob r) = None
-job_of (Job job events fault) = Some job
+-- P holds of what the answer tells: the job number, the events and what stopped them; or no job number, no event and
+-- why. Where memory ran out it tells nothing
+abbrev pub Tells : (Option ℕ → List (Event Cell) → Option ByteRefusal → Type 0) → Result Listing ListError → Type 0
+Tells P (Ok l) = P (Some l.job) (vec_items l.events) l.fault
+Tells P (Err (Refused r)) = P None [] (Some r)
+Tells P (Err (OutOfMemory e)) = Unit {0}
 
--- the events that were read
-abbrev pub events_of : Listing → List (Event Cell)
-events_of (NoJob r) = []
-events_of (Job job events fault) = vec_items events
-
--- what stopped it, if anything did
-abbrev pub fault_of : Listing → Option ByteRefusal
-fault_of (NoJob r) = Some r
-fault_of (Job job events fault) = fault
-
--- the listing tells what the file bs does
-abbrev pub Lists : List ℕ → Listing → Type 0
-Lists bs l = Listed bs (job_of l) (events_of l) (fault_of l)
+-- the text of an error
+abbrev pub error_text : ListError → List ℕ
+error_text (Refused r) = refusal_text r
+error_text (OutOfMemory e) = codes "out of memory"

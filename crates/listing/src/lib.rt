@@ -1,10 +1,12 @@
 // A whole record file: listed line by line, and written again.
 #![tactic(auto)]
 
+mod error;
 mod file;
 mod line;
 mod text;
 
-pub use file::{Listing, list, written_again};
+pub use error::ListError;
+pub use file::{Listing, Recording, list};
 pub use line::{Again, Line};
 pub use text::{LIMIT, lines};

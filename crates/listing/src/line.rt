@@ -1,17 +1,29 @@
 // A line of a listing, and its text.
-ghost use Rattle.std.specs.Prelude.{Some};
+ghost use Rattle.std.specs.Prelude.{◌≡◌, if◌then◌else◌, Some};
+ghost use Rattle.listing.specs.declared.line.Again.TheVariants.{Equal, Different};
 ghost use Rattle.listing.specs.Lines.{again_text, line_shown};
 
 use model::{Cell, Event};
 use record::ByteRefusal;
 use std::fmt;
-use std::fmt::Display;
 
 // Bytes that were written again, held against those that were read.
-#[derive(Clone, Copy)]
+#[derive(Clone, Copy, PartialEq, Eq, Debug)]
 pub enum Again {
     Equal,
     Different,
+}
+
+impl From<bool> for Again {
+    ghost from_gives = { λ equal again. again ≡ (if equal then Equal else Different) };
+
+    fn from(equal: bool) -> Again {
+        if equal {
+            Again::Equal
+        } else {
+            Again::Different
+        }
+    }
 }
 
 impl fmt::Display for Again {
@@ -26,7 +38,7 @@ impl fmt::Display for Again {
     }
 }
 
-#[derive(Drop)]
+#[derive(Clone, Copy, PartialEq, Eq, Debug)]
 pub enum Line {
     Job {
         job: u64,
@@ -59,7 +71,7 @@ impl fmt::Display for Line {
                 bytes,
                 again,
             } => { write!(f, "{events} events, {bytes} bytes, written again: {again}") }
-            Line::Refused { refusal } => refusal.fmt(f),
+            Line::Refused { refusal } => write!(f, "{refusal}"),
         }
     }
 }

@@ -4,8 +4,9 @@ ghost use Rattle.listing.specs.declared.line.Line.TheVariants.{Refused};
 ghost use Rattle.listing.specs.Files.{Listed};
 ghost use Rattle.listing.specs.Lines.{Told, event_lines, last_line, lines_of};
 
-use crate::file::{Listing, list, written_again};
-use crate::line::{Again, Line};
+use crate::error::ListError;
+use crate::file::{Listing, list};
+use crate::line::Line;
 use model::{Cell, Event};
 use record::{ByteFault, ByteRefusal};
 use std::alloc::{AllocError, Global};
@@ -26,83 +27,51 @@ fn push_events(lines: &mut Vec<Line>, events: &[Event<Cell>]) -> Result<(), Allo
     Ok(())
 }
 
-// How the listing of a file with a job number ends: where nothing stopped it, it is written again and compared.
-fn end_line(
-    heap: Global,
-    bytes: &[u8],
-    job: u64,
-    events: &[Event<Cell>],
-    fault: Option<ByteRefusal>,
-) -> Result<Line, AllocError>
-    requires { Listed bytes.now (Some job) events.now fault }
-    ensures { IfOk result (λ l. l ≡ last_line (length bytes.now) events.now fault) }
-{
-    match fault {
-        Some(refusal) => Ok(Line::Refused { refusal }),
-        None => {
-            let equal = written_again(heap, bytes, job, events)?;
-            let again = if equal {
-                Again::Equal
-            } else {
-                Again::Different
-            };
-            Ok(Line::Summary {
-                events: events.len(),
+impl Listing {
+    // The last line of the file that this lists: where nothing stopped it, it is written again and compared.
+    fn end_line(&self, alloc: Global, bytes: &[u8]) -> Result<Line, AllocError>
+        requires { Listed bytes.now (Some self.now.job) self.now.events.items self.now.fault }
+        ensures { IfOk result (λ line. line ≡ last_line (length bytes.now) self.now.events.items self.now.fault) }
+    {
+        match self.fault {
+            Some(refusal) => Ok(Line::Refused { refusal }),
+            None => Ok(Line::Summary {
+                events: self.events.len(),
                 bytes: bytes.len(),
-                again,
-            })
+                again: self.recording().written_again(alloc, bytes)?.into(),
+            }),
         }
     }
-}
 
-// The job, its events, and how they end.
-fn job_lines(
-    heap: Global,
-    bytes: &[u8],
-    job: u64,
-    events: &[Event<Cell>],
-    fault: Option<ByteRefusal>,
-) -> Result<Vec<Line>, AllocError>
-    requires { Listed bytes.now (Some job) events.now fault }
-    ensures { IfOk result (λ v. v.items ≡ lines_of (length bytes.now) (Some job) events.now fault) }
-{
-    let mut lines = Vec::new(heap);
-    lines.push(Line::Job { job })?;
-    push_events(&mut lines, events)?;
-    lines.push(end_line(heap, bytes, job, events, fault)?)?;
-    Ok(lines)
+    // The job, its events, and how they end.
+    fn lines(&self, alloc: Global, bytes: &[u8]) -> Result<Vec<Line>, AllocError>
+        requires { Listed bytes.now (Some self.now.job) self.now.events.items self.now.fault }
+        ensures { let l = self.now in IfOk result (λ v. v.items ≡ lines_of (length bytes.now) (Some l.job) l.events.items l.fault) }
+    {
+        let mut lines = vec![in alloc; Line::Job { job: self.job }]?;
+        push_events(&mut lines, self.events.as_slice())?;
+        lines.push(self.end_line(alloc, bytes)?)?;
+        Ok(lines)
+    }
 }
 
 // One line, for a file of which no event is read.
-fn refused_line(heap: Global, refusal: ByteRefusal) -> Result<Vec<Line>, AllocError>
+fn refused_line(alloc: Global, refusal: ByteRefusal) -> Result<Vec<Line>, AllocError>
     ensures { IfOk result (λ v. v.items ≡ Refused refusal ∷ []) }
 {
-    let mut lines = Vec::new(heap);
-    lines.push(Line::Refused { refusal })?;
-    Ok(lines)
+    Ok(vec![in alloc; Line::Refused { refusal }]?)
 }
 
 // The lines by which a file is listed.
-pub fn lines(heap: Global, bytes: &[u8]) -> Result<Vec<Line>, AllocError>
+pub fn lines(alloc: Global, bytes: &[u8]) -> Result<Vec<Line>, AllocError>
     ensures told { IfOk result (λ v. Told bytes.now v.items) }
 {
     if bytes.len() > LIMIT {
-        return refused_line(
-            heap,
-            ByteRefusal {
-                fault: ByteFault::NoRoom,
-                place: LIMIT,
-            },
-        );
+        return refused_line(alloc, ByteFault::NoRoom.at(LIMIT));
     }
-    match list(heap, bytes)? {
-        Listing::NoJob { refusal } => refused_line(heap, refusal),
-        Listing::Job { job, events, fault } => job_lines(
-            heap,
-            bytes,
-            job,
-            events.as_slice(),
-            fault,
-        ),
+    match list(alloc, bytes) {
+        Ok(listing) => listing.lines(alloc, bytes),
+        Err(ListError::Refused(refusal)) => refused_line(alloc, refusal),
+        Err(ListError::OutOfMemory(error)) => Err(error),
     }
 }

@@ -3,6 +3,8 @@ pub mod Scanning
 pub mod Headings
 pub mod Reading
 pub mod Laying
+pub mod Writing
+pub mod Forms
 pub mod Passing
 pub mod OneNumber
 pub mod OneEvent

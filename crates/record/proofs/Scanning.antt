@@ -1,7 +1,7 @@
 -- Reading a number byte by byte: what is known before each byte, and what each way out gives.
-use Rattle.std.proofs.Common.{◌≡◌, ℕ, zero, suc, ◌+◌, ◌*◌, ◌%◌, ◌^◌, ◌<◌, ◌≤◌, ◌⊎◌, List, [], ◌∷◌, ◌++◌, length, get_or, take, drop, sym, refl, ap, ◌∙◌, subst, inl, inr, mul-le-mul_right, mul_assoc, mul_comm, add-mul, pow-suc, add-one, arith, lit<}
+use Rattle.std.proofs.Common.{◌≡◌, ℕ, zero, suc, ◌+◌, ◌-◌, ◌*◌, ◌%◌, ◌^◌, ◌<◌, ◌≤◌, ◌⊎◌, List, [], ◌∷◌, ◌++◌, length, get_or, take, drop, sym, refl, ap, ◌∙◌, subst, min, Fits, w8, inl, inr, mul-le-mul_right, mul_assoc, mul_comm, add-mul, pow-suc, add-one, arith, lit<}
 use native.Mathlib.Nat.{pow-le-pow_right}
-use Rattle.std.proofs.lemmas.List.{drop_more, length-take-le, take-append-drop, take_all}
+use Rattle.std.proofs.lemmas.List.{drop_more, length-take-le, take-append-drop, take_all, take_rest, get_or-take}
 use Rattle.std.proofs.ByRecursion.{All-more}
 use Rattle.record.specs.Numbers.{groups, number_form, GoesOn, NumberRead, Misformed, CutOff}
 use Rattle.record.proofs.Groups.{groups_last, groups_cons}
@@ -48,6 +48,24 @@ module _ (value weight : ℕ) where
       let r : m * (128 * weight) ≡ m * (weight * 128) = ap (λ (x : ℕ). m * x) (mul_comm 128 weight) in
       omega arith
 
+-- b is the byte at i, which is one of the first nine
+pub record ByteAt (bytes : List ℕ) (i b : ℕ) : Type 0 where
+  pub ninth : i < 9
+  pub there : i < length bytes
+  pub is : b ≡ get_or bytes i 0
+  pub fits : b < 256
+
+-- as it is read from the first nine
+pub byte_at : (bytes : List ℕ) (i n : ℕ) → n ≡ min 9 (length bytes) → i < length (take n bytes) → Fits w8 (get_or bytes i 0) → ByteAt bytes i (get_or (take n bytes) i 0)
+byte_at bytes i n e h f =
+    let l : length (take n bytes) ≡ n = length-take-le n bytes (omega arith) in
+    let r : get_or (take n bytes) i 0 ≡ get_or bytes i 0 = get_or-take n bytes i 0 (omega arith) in
+    record { ninth = omega arith; there = omega arith; is = r; fits = omega (arith, f) }
+
+-- no byte of the first nine is left
+pub none_left : (bytes : List ℕ) (i n : ℕ) → n ≡ min 9 (length bytes) → length (take n bytes) ≤ i → min 9 (length bytes) ≤ i
+none_left bytes i n e h = let l : length (take n bytes) ≡ n = length-take-le n bytes (omega arith) in omega arith
+
 module _ (bytes : List ℕ) (i value weight : ℕ) (s : SoFar bytes i value weight) where
   pub weight_fits : i < 9 → weight ≤ 2 ^ 56
   weight_fits h = rw s.weighs (weight_le i (omega arith))
@@ -66,22 +84,16 @@ module _ (bytes : List ℕ) (i value weight : ℕ) (s : SoFar bytes i value weig
       go (suc k) e = (k, e)
 
   -- the bytes run out
-  pub read_short : i < 9 → length bytes ≤ i → CutOff bytes
-  read_short h l = (subst GoesOn (take_all i bytes l) s.goes, omega (arith, s.held))
+  pub read_short : length bytes < 9 → min 9 (length bytes) ≤ i → CutOff bytes
+  read_short h l = (subst GoesOn (take_all i bytes (omega arith)) s.goes, h)
 
-  -- a byte that goes on
-  pub so_far_more : i < 9 → i < length bytes → 128 ≤ get_or bytes i 0 → get_or bytes i 0 < 256 → SoFar bytes (i + 1) (value + (get_or bytes i 0 % 128) * weight) (weight * 128)
-  so_far_more h l b b' = record {
-    left = (left_over h).0;
-    nine = (let n = s.nine in let e = (left_over h).1 in omega arith);
-    weighs = ap (λ (x : ℕ). x * 128) s.weighs ∙ (sym (pow-suc 128 i) ∙ ap (λ (x : ℕ). 128 ^ x) (sym (add-one i)));
-    below = value_below (get_or bytes i 0 % 128) h (omega arith);
-    held = omega arith;
-    goes = All-more (λ x. 128 ≤ x) bytes i 0 l s.goes b;
-    whole = λ m rest p e. subst (λ (x : ℕ). bytes ≡ number_form x ++ rest) (regroup value weight (get_or bytes i 0 % 128) m) (s.whole (get_or bytes i 0 % 128 + m * 128) rest (inr (some p)) (shifted m rest p e));
-  }
-    where
-      some : {m : ℕ} → (i + 1 ≡ 0) ⊎ (0 < m) → 0 < get_or bytes i 0 % 128 + m * 128
+  module _ (b : ℕ) (at : ByteAt bytes i b) where
+    first : drop i bytes ≡ b ∷ drop (i + 1) bytes
+    first = drop_more bytes i 0 at.there ∙ ap (λ (x : ℕ). x ∷ drop (i + 1) bytes) (sym at.is)
+
+    -- a byte that goes on, with its group c
+    module _ (c : ℕ) (group : c ≡ b % 128) (more : 128 ≤ b) where
+      some : {m : ℕ} → (i + 1 ≡ 0) ⊎ (0 < m) → 0 < c + m * 128
       some {m} (inl e) = omega arith
       some {m} (inr q) = omega arith
 
@@ -89,36 +101,48 @@ module _ (bytes : List ℕ) (i value weight : ℕ) (s : SoFar bytes i value weig
       positive {m} (inl e) = let z : ⊥ = omega arith in absurd z
       positive {m} (inr q) = q
 
-      shifted : (m : ℕ) (rest : List ℕ) → (i + 1 ≡ 0) ⊎ (0 < m) → drop (i + 1) bytes ≡ groups (left_over h).0 m ++ rest → drop i bytes ≡ groups s.left (get_or bytes i 0 % 128 + m * 128) ++ rest
+      shifted : (m : ℕ) (rest : List ℕ) → (i + 1 ≡ 0) ⊎ (0 < m) → drop (i + 1) bytes ≡ groups (left_over at.ninth).0 m ++ rest → drop i bytes ≡ groups s.left (c + m * 128) ++ rest
       shifted m rest p e =
-          let c : ℕ = get_or bytes i 0 % 128 in
-          let high : get_or bytes i 0 ≡ 128 + c = omega arith in
-          let first : drop i bytes ≡ get_or bytes i 0 ∷ drop (i + 1) bytes = drop_more bytes i 0 l in
-          let form : groups s.left (c + m * 128) ≡ (128 + c) ∷ groups (left_over h).0 m = ap (λ (k : ℕ). groups k (c + m * 128)) (left_over h).1 ∙ groups_cons (left_over h).0 c m (omega arith) (positive p) in
+          let f = at.fits in
+          let high : b ≡ 128 + c = omega arith in
+          let form : groups s.left (c + m * 128) ≡ (128 + c) ∷ groups (left_over at.ninth).0 m = ap (λ (k : ℕ). groups k (c + m * 128)) (left_over at.ninth).1 ∙ groups_cons (left_over at.ninth).0 c m (omega arith) (positive p) in
           first ∙ ((λ j. high j ∷ e j) ∙ ap (λ (x : List ℕ). x ++ rest) (sym form))
 
-  -- the last byte
-  pub read_last : i < 9 → i < length bytes → get_or bytes i 0 < 128 → (i ≡ 0) ⊎ (0 < get_or bytes i 0) → NumberRead bytes (value + (get_or bytes i 0 % 128) * weight) (drop (i + 1) bytes)
-  read_last h l b p =
-      let low : get_or bytes i 0 % 128 ≡ get_or bytes i 0 = omega arith in
-      let first : drop i bytes ≡ get_or bytes i 0 ∷ drop (i + 1) bytes = drop_more bytes i 0 l in
-      let form : groups s.left (get_or bytes i 0) ≡ get_or bytes i 0 ∷ [] = ap (λ (k : ℕ). groups k (get_or bytes i 0)) (left_over h).1 ∙ groups_last (left_over h).0 (get_or bytes i 0) b in
-      let all : bytes ≡ number_form (value + get_or bytes i 0 * weight) ++ drop (i + 1) bytes = s.whole (get_or bytes i 0) (drop (i + 1) bytes) p (first ∙ ap (λ (x : List ℕ). x ++ drop (i + 1) bytes) (sym form)) in
-      (value_fits (get_or bytes i 0 % 128) h (omega arith), subst (λ (x : ℕ). bytes ≡ number_form (value + x * weight) ++ drop (i + 1) bytes) (sym low) all)
+      more_read : SoFar bytes (i + 1) (value + c * weight) (weight * 128)
+      more_read = record {
+        left = (left_over at.ninth).0;
+        nine = (let n = s.nine in let e = (left_over at.ninth).1 in omega arith);
+        weighs = ap (λ (x : ℕ). x * 128) s.weighs ∙ (sym (pow-suc 128 i) ∙ ap (λ (x : ℕ). 128 ^ x) (sym (add-one i)));
+        below = value_below c at.ninth (omega arith);
+        held = (let h = at.there in omega arith);
+        goes = All-more (λ x. 128 ≤ x) bytes i 0 at.there s.goes (rw at.is at more);
+        whole = λ m rest p e. subst (λ (x : ℕ). bytes ≡ number_form x ++ rest) (regroup value weight c m) (s.whole (c + m * 128) rest (inr (some p)) (shifted m rest p e));
+      }
 
-  -- a last byte after the first is 0
-  pub read_zero : i < 9 → 0 < i → i < length bytes → get_or bytes i 0 ≡ 0 → Misformed bytes
-  read_zero h p l e = record {
-    front = take i bytes;
-    rest = drop i bytes;
-    cut = sym (take-append-drop i bytes);
-    goes = s.goes;
-    bad = (let n : length (take i bytes) ≡ i = length-take-le i bytes s.held in inr (omega arith, omega arith, (drop (i + 1) bytes, drop_more bytes i 0 l ∙ ap (λ (x : ℕ). x ∷ drop (i + 1) bytes) e)));
-  }
+      pub so_far_more : (w : ℕ) → w ≡ weight * 128 → SoFar bytes (i + 1) (value + c * weight) w
+      so_far_more w e = subst (SoFar bytes (i + 1) (value + c * weight)) (sym e) more_read
+
+    -- the last byte: the rest is as a slice from the next on is read
+    pub read_last : (c : ℕ) → c ≡ b % 128 → b < 128 → (i ≡ 0) ⊎ (0 < b) → NumberRead bytes (value + c * weight) (take (length bytes - (i + 1)) (drop (i + 1) bytes))
+    read_last c e l p =
+        let low : b ≡ c = omega arith in
+        let form : groups s.left b ≡ b ∷ [] = ap (λ (k : ℕ). groups k b) (left_over at.ninth).1 ∙ groups_last (left_over at.ninth).0 b l in
+        let all : bytes ≡ number_form (value + b * weight) ++ drop (i + 1) bytes = s.whole b (drop (i + 1) bytes) p (first ∙ ap (λ (x : List ℕ). x ++ drop (i + 1) bytes) (sym form)) in
+        (value_fits c at.ninth (omega arith), rw take_rest (subst (λ (x : ℕ). bytes ≡ number_form (value + x * weight) ++ drop (i + 1) bytes) low all))
+
+    -- a last byte after the first is 0
+    pub read_zero : 0 < i → b ≡ 0 → Misformed bytes
+    read_zero p e = record {
+      front = take i bytes;
+      rest = drop i bytes;
+      cut = sym (take-append-drop i bytes);
+      goes = s.goes;
+      bad = (let n : length (take i bytes) ≡ i = length-take-le i bytes s.held in let h = at.ninth in inr (omega arith, omega arith, (drop (i + 1) bytes, first ∙ ap (λ (x : ℕ). x ∷ drop (i + 1) bytes) e)));
+    }
 
   -- the ninth byte goes on
-  pub read_long : 9 ≤ i → Misformed bytes
-  read_long h = record {
+  pub read_long : 9 ≤ length bytes → min 9 (length bytes) ≤ i → Misformed bytes
+  read_long h l = record {
     front = take i bytes;
     rest = drop i bytes;
     cut = sym (take-append-drop i bytes);

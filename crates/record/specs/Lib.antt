@@ -1,4 +1,6 @@
 pub mod Faults
+pub mod Kinds
+pub mod Checked
 pub mod Numbers
 pub mod Heading
 pub mod Events
@@ -6,4 +8,6 @@ pub mod Answers
 pub mod Laws
 pub mod Readers
 pub mod Writes
+pub mod Writers
+pub mod Forms
 pub mod Examples

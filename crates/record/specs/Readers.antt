@@ -2,6 +2,8 @@
 use Rattle.std.specs.Prelude.{◌≡◌, ℕ, ◌+◌, ◌^◌, ◌<◌, List, [], ◌++◌, length, Some, None, Ok, Err, Option, Result}
 use Rattle.model.specs.declared.Cell.{Cell}
 use Rattle.model.specs.declared.Event.{Event}
+use Rattle.std.specs.Borrow.{Bor}
+use Rattle.record.specs.declared.fault.ByteFault.{ByteFault}
 use Rattle.record.specs.declared.fault.ByteRefusal.{ByteRefusal}
 use Rattle.record.specs.declared.reader.Reader.{Reader}
 use Rattle.record.specs.Numbers.{number_form, NumberRefused}
@@ -19,6 +21,14 @@ Passed r bs s = (left_of r ≡ bs ++ left_of s) × (s.place ≡ r.place + length
 -- the refusal f is placed at the first byte before which r stands, and s is r still
 abbrev pub Stayed : Reader → ByteRefusal → Reader → Type 0
 Stayed r f s = (s ≡ r) × (f.place ≡ r.place)
+
+-- r went on past what was read of the bytes before it, with the value answered and the rest behind it; or it stayed, and
+-- the fault is placed there
+abbrev pub Went : {V : Type 0} → Reader → Result (V × Bor (List ℕ)) ByteFault → Result V ByteRefusal → Reader → Type 0
+Went r (Ok p) (Ok v) s = (v ≡ p.0) × (left_of s ≡ p.1.now) × (s.place + length p.1.now ≡ r.place + length (left_of r))
+Went r (Ok p) (Err g) s = ⊥
+Went r (Err f) (Ok v) s = ⊥
+Went r (Err f) (Err g) s = (g.fault ≡ f) × Stayed r g s
 
 -- a call for the heading on r, what it answers, and the reader after it
 abbrev pub HeadingCall : Reader → Result (Unit {0}) ByteRefusal → Reader → Type 0

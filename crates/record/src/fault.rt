@@ -8,17 +8,17 @@ use std::fmt;
 #[derive(Clone, Copy, PartialEq, Eq, Debug)]
 pub enum ByteFault {
     // a byte of the heading that is there is wrong
-    WrongHeading,
+    WrongHeading = 1,
     // the bytes run out
-    Short,
+    Short = 2,
     // a number is not in its shortest form, or too long
-    BadNumber,
+    BadNumber = 3,
     // no kind of event has this byte
-    UnknownKind,
+    UnknownKind = 4,
     // the buffer has no room
-    NoRoom,
+    NoRoom = 5,
     // a number is above 2^63 - 1
-    TooLarge,
+    TooLarge = 6,
 }
 
 impl ByteFault {
@@ -26,14 +26,7 @@ impl ByteFault {
     pub fn number(self) -> u8
         ensures value { result ≡ number_of self }
     {
-        match self {
-            ByteFault::WrongHeading => 1,
-            ByteFault::Short => 2,
-            ByteFault::BadNumber => 3,
-            ByteFault::UnknownKind => 4,
-            ByteFault::NoRoom => 5,
-            ByteFault::TooLarge => 6,
-        }
+        self as u8
     }
 
     // The layer that it comes from: the writer's 6 too is one of the bytes.
@@ -41,6 +34,14 @@ impl ByteFault {
         ensures value { result ≡ layer_of self }
     {
         Layer::Bytes
+    }
+
+    // The fault at its place.
+    pub fn at(self, place: usize) -> ByteRefusal
+        ensures fault { result.fault ≡ self }
+        ensures place { result.place ≡ place }
+    {
+        ByteRefusal { fault: self, place }
     }
 }
 
@@ -55,9 +56,12 @@ impl fmt::Display for ByteRefusal {
     ghost output = { λ r. Some (refusal_text r) };
 
     fn fmt<W: fmt::Write>(&self, f: &mut fmt::Formatter<W>) -> fmt::Result {
-        let number = self.fault.number();
-        let layer = self.fault.layer();
-        let place = self.place;
-        write!(f, "refused {number} layer {layer} byte {place}")
+        write!(
+            f,
+            "refused {} layer {} byte {}",
+            self.fault.number(),
+            self.fault.layer(),
+            self.place
+        )
     }
 }

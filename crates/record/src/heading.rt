@@ -12,21 +12,9 @@ pub fn read_heading(bytes: &[u8]) -> Result<&[u8], ByteFault>
     ensures answered { RestAnswer HeadingRead HeadingRefused bytes.now result }
     ensures only { OnlyRest HeadingRead HeadingRefused bytes.now result }
 {
-    after_heading(bytes)
-}
-
-// The same, byte by byte.
-fn after_heading(bytes: &[u8]) -> Result<&[u8], ByteFault>
-    ensures { RestAnswer HeadingRead HeadingRefused bytes.now result }
-{
-    let heading = HEADING;
-    for i in 0..4 {
-        if i >= bytes.len() {
-            return Err(ByteFault::Short);
-        }
-        if bytes[i] != heading[i] {
-            return Err(ByteFault::WrongHeading);
-        }
+    match bytes.strip_prefix(&HEADING) {
+        Some(rest) => Ok(rest),
+        None if HEADING.starts_with(bytes) => Err(ByteFault::Short),
+        None => Err(ByteFault::WrongHeading),
     }
-    Ok(&bytes[4..])
 }

@@ -1,13 +1,32 @@
-// The byte that an event begins with.
+// The kinds of events, each with the byte that an event of it begins with.
+ghost use Rattle.record.specs.Kinds.{KindRead};
 
-pub const SPAWN: u8 = 1;
+use crate::fault::ByteFault;
 
-pub const END: u8 = 2;
+#[derive(Clone, Copy, PartialEq, Eq, Debug)]
+pub(crate) enum Kind {
+    Spawn = 1,
+    End = 2,
+    Open = 3,
+    Close = 4,
+    Read = 5,
+    Write = 6,
+}
 
-pub const OPEN: u8 = 3;
+impl TryFrom<u8> for Kind {
+    type Error = ByteFault;
 
-pub const CLOSE: u8 = 4;
+    ghost try_from_gives = { KindRead };
 
-pub const READ: u8 = 5;
-
-pub const WRITE: u8 = 6;
+    fn try_from(byte: u8) -> Result<Kind, ByteFault> {
+        match byte {
+            1 => Ok(Kind::Spawn),
+            2 => Ok(Kind::End),
+            3 => Ok(Kind::Open),
+            4 => Ok(Kind::Close),
+            5 => Ok(Kind::Read),
+            6 => Ok(Kind::Write),
+            _ => Err(ByteFault::UnknownKind),
+        }
+    }
+}

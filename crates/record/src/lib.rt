@@ -3,9 +3,11 @@
 
 mod event;
 mod fault;
+mod form;
 mod heading;
 mod kind;
 mod number;
+mod numbers;
 mod reader;
 mod writer;
 
@@ -14,4 +16,4 @@ pub use fault::{ByteFault, ByteRefusal};
 pub use heading::read_heading;
 pub use number::read_number;
 pub use reader::Reader;
-pub use writer::{write_event, write_heading, write_job};
+pub use writer::Writer;

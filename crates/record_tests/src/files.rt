@@ -6,17 +6,17 @@ use std::process::Abort;
 use std::test::Fail;
 
 // The lines of a file, each with its line feed.
-fn text(heap: Global, bytes: &[u8]) -> Result<String, Fail> {
-    let mut out = String::new(heap);
-    for line in lines(heap, bytes)? {
+fn text(alloc: Global, bytes: &[u8]) -> Result<String, Fail> {
+    let mut out = String::new(alloc);
+    for line in lines(alloc, bytes)? {
         writeln!(out, "{line}")?;
     }
     Ok(out)
 }
 
-fn check_all(rt: &impl Abort, heap: Global, table: &[(&[u8], &str)]) -> Result<(), Fail> {
+fn check_all(rt: &impl Abort, alloc: Global, table: &[(&[u8], &str)]) -> Result<(), Fail> {
     for (bytes, expected) in table {
-        let found = text(heap, bytes)?;
+        let found = text(alloc, bytes)?;
         assert_eq!(rt; found.as_str(), *expected);
     }
     Ok(())
@@ -139,15 +139,15 @@ fn faults(rt: HostRuntime) -> Result<(), Fail> {
 // A file of 65,536 bytes is read, and one byte more is refused unread.
 #[test]
 fn longest(rt: HostRuntime) -> Result<(), Fail> {
-    let heap = rt.alloc();
-    let mut bytes = vec![in heap; 0u8; 65_536]?;
+    let alloc = rt.alloc();
+    let mut bytes = vec![in alloc; 0u8; 65_536]?;
     assert_eq!(rt;
-        text(heap, bytes.as_slice())?.as_str(),
+        text(alloc, bytes.as_slice())?.as_str(),
         "refused 1 layer bytes byte 0\n"
     );
     bytes.push(0)?;
     assert_eq!(rt;
-        text(heap, bytes.as_slice())?.as_str(),
+        text(alloc, bytes.as_slice())?.as_str(),
         "refused 5 layer bytes byte 65536\n"
     );
     Ok(())

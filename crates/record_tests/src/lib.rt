@@ -1,8 +1,10 @@
-// Tests of the record bytes by example: numbers and their forms, whole files and their listings, and refused writes.
+// Tests of the record bytes by example: numbers and their forms, whole files, their listings and their lines, and refused writes.
 #![tactic(auto)]
 
 #[cfg(test)]
 mod files;
+#[cfg(test)]
+mod listings;
 #[cfg(test)]
 mod numbers;
 #[cfg(test)]

@@ -1,12 +1,14 @@
 // Numbers against their forms, and bytes that are no number.
-use record::{ByteFault, read_number, write_job};
+use record::{ByteFault, Writer, read_number};
 use std::process::Abort;
 use std::test::Fail;
 
 // A number is written as its form, and the form is read back, whatever follows it.
 fn both_ways(rt: &impl Abort, number: u64, form: &[u8]) -> Result<(), Fail> {
     let mut buf = [0xee; 12];
-    let end = write_job(&mut buf, 1, number)?;
+    let mut writer = Writer::new(&mut buf, 1);
+    writer.job(number)?;
+    let end = writer.place();
     assert_eq!(rt; end, 1 + form.len());
     assert!(rt; end <= 12);
     assert_eq!(rt; &buf[1..end], form);
@@ -88,10 +90,7 @@ const REFUSED: [(&[u8], ByteFault); 12] = [
 #[test]
 fn refused(rt: HostRuntime) -> Result<(), Fail> {
     for (bytes, fault) in REFUSED {
-        match read_number(bytes) {
-            Ok(_) => return Err(Fail::new("read, and should have been refused")),
-            Err(found) => assert_eq!(rt; found, fault),
-        }
+        assert_eq!(rt; read_number(bytes).err(), Some(fault));
     }
     Ok(())
 }

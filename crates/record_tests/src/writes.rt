@@ -1,7 +1,8 @@
 // Writes that fit to the last byte, and writes that are refused and leave the buffer as it was.
 use model::{Cell, Event};
-use record::{ByteFault, ByteRefusal, write_event, write_heading, write_job};
+use record::{ByteFault, ByteRefusal, Writer};
 
+// The largest number, in its own words here: a test's values are not taken from the code.
 const LARGEST: u64 = 0x7fff_ffff_ffff_ffff;
 
 // An event of four bytes.
@@ -13,7 +14,7 @@ const WRITE: Event<Cell> = Event::Write {
     },
 };
 
-// The same, but for a number that is too large.
+// The same, but for a number that is too large; written out, as a table's values are.
 const HUGE: Event<Cell> = Event::Write {
     task: 0,
     cell: Cell {
@@ -22,8 +23,22 @@ const HUGE: Event<Cell> = Event::Write {
     },
 };
 
+// Made by hand, as the tables' other values are.
 fn refused(fault: ByteFault, place: usize) -> Result<usize, ByteRefusal> {
     Err(ByteRefusal { fault, place })
+}
+
+// The place after what `call` writes from `at` on, or its refusal.
+fn write<F: FnOnce(&mut Writer<'_>) -> Result<(), ByteRefusal>>(
+    buf: &mut [u8],
+    at: usize,
+    call: F,
+) -> Result<usize, ByteRefusal>
+    requires { F.IsAlwaysCallable call }
+{
+    let mut writer = Writer::new(buf, at);
+    call(&mut writer)?;
+    Ok(writer.place())
 }
 
 #[test]
@@ -53,7 +68,7 @@ fn events(rt: HostRuntime) {
     ];
     for (event, at, expected) in table {
         let mut buf = [9; 6];
-        let answer = write_event(&mut buf, at, event);
+        let answer = write(&mut buf, at, |writer| writer.event(event));
         assert_eq!(rt; buf == [9; 6], answer.is_err());
         assert_eq!(rt; answer, expected);
     }
@@ -62,14 +77,20 @@ fn events(rt: HostRuntime) {
 #[test]
 fn headings_and_jobs(rt: HostRuntime) {
     let mut buf = [9; 6];
-    assert_eq!(rt; write_heading(&mut buf, 3), refused(ByteFault::NoRoom, 3));
     assert_eq!(rt;
-        write_job(&mut buf, 0, LARGEST + 1),
+        write(&mut buf, 3, |writer| writer.heading()),
+        refused(ByteFault::NoRoom, 3)
+    );
+    assert_eq!(rt;
+        write(&mut buf, 0, |writer| writer.job(LARGEST + 1)),
         refused(ByteFault::TooLarge, 0)
     );
-    assert_eq!(rt; write_job(&mut buf, 5, 300), refused(ByteFault::NoRoom, 5));
+    assert_eq!(rt;
+        write(&mut buf, 5, |writer| writer.job(300)),
+        refused(ByteFault::NoRoom, 5)
+    );
     assert_eq!(rt; buf, [9; 6]);
-    assert_eq!(rt; write_heading(&mut buf, 0), Ok(4));
-    assert_eq!(rt; write_job(&mut buf, 4, 300), Ok(6));
+    assert_eq!(rt; write(&mut buf, 0, |writer| writer.heading()), Ok(4));
+    assert_eq!(rt; write(&mut buf, 4, |writer| writer.job(300)), Ok(6));
     assert_eq!(rt; &buf, b"AFT1\xac\x02");
 }

@@ -6,11 +6,11 @@ use std::io;
 use std::io::Read;
 
 fn main(rt: HostRuntime) -> io::Result<()> {
-    let heap = rt.alloc();
-    let mut input = Vec::new(heap);
-    // One byte more than a file may have shows that it is too long.
+    let alloc = rt.alloc();
+    let mut input = Vec::new(alloc);
+    // One byte more than a file may have shows that it is too long. `as`: no `From` leads from `usize` to `u64`.
     rt.stdin().take(LIMIT as u64 + 1).read_to_end(&mut input)?;
-    for line in lines(heap, input.as_slice())? {
+    for line in lines(alloc, input.as_slice())? {
         rt.println(line)?;
     }
     Ok(())

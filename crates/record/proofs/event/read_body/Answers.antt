@@ -1,25 +1,25 @@
 -- A refused number stops its event, whatever the kind.
-use Rattle.std.proofs.Common.{arith, rules}
-use Rattle.record.proofs.Reading.{spawn_stopped, task_stopped, access_stopped, unknown_kind}
+use Rattle.std.proofs.Common.{rules}
+use Rattle.record.proofs.Reading.{task_stopped, child_stopped, cell_stopped}
 use Rattle.record.proofs.event.read_body.Goals as goal
 
-pub returns-in_err-task-in-1 : goal.returns-in_err-task-in-1
-returns-in_err-task-in-1 c = search (rules, spawn_stopped)
+pub returns-in_err-task : goal.returns-in_err-task
+returns-in_err-task c = search (rules, task_stopped)
 
-pub returns-in_err-task-in-2 : goal.returns-in_err-task-in-2
-returns-in_err-task-in-2 c = search (rules, task_stopped)
+pub returns-in_err-child-in-Spawn : goal.returns-in_err-child-in-Spawn
+returns-in_err-child-in-Spawn c =
+    let task = c.in_ok-task.ensures in
+    let why = c.in_err-child-in-Spawn.ensures in
+    search (rules, child_stopped)
 
-pub returns-in_err-task-in-3 : goal.returns-in_err-task-in-3
-returns-in_err-task-in-3 c = search (rules, task_stopped)
+pub returns-in_err-cell-in-Read : goal.returns-in_err-cell-in-Read
+returns-in_err-cell-in-Read c =
+    let task = c.in_ok-task.ensures in
+    let why = c.in_err-cell-in-Read.ensures in
+    search (rules, cell_stopped)
 
-pub returns-in_err-task-in-4 : goal.returns-in_err-task-in-4
-returns-in_err-task-in-4 c = search (rules, task_stopped)
-
-pub returns-in_err-task-in-5 : goal.returns-in_err-task-in-5
-returns-in_err-task-in-5 c = search (rules, access_stopped)
-
-pub returns-in_err-task-in-6 : goal.returns-in_err-task-in-6
-returns-in_err-task-in-6 c = search (rules, access_stopped)
-
-pub returns-in_default : goal.returns-in_default
-returns-in_default c = unknown_kind c.args.byte c.args.bytes.now (omega arith)
+pub returns-in_err-cell-in-Write : goal.returns-in_err-cell-in-Write
+returns-in_err-cell-in-Write c =
+    let task = c.in_ok-task.ensures in
+    let why = c.in_err-cell-in-Write.ensures in
+    search (rules, cell_stopped)

@@ -1,5 +1,9 @@
-use Rattle.record.proofs.Only.{heading_only}
+use Rattle.std.proofs.Common.{rules}
+use Rattle.record.proofs.Headings.{heading_short, heading_wrong}
 use Rattle.record.proofs.heading.read_heading.Goals as goal
 
-pub returns : goal.returns
-returns c = record { answered = c.after_heading.ensures; only = heading_only _ _ c.after_heading.ensures }
+pub returns-in-None-clause-answered : goal.returns-in-None-clause-answered
+returns-in-None-clause-answered c = search (rules, heading_short)
+
+pub returns-in-None-2-clause-answered : goal.returns-in-None-2-clause-answered
+returns-in-None-2-clause-answered c = search (rules, heading_wrong)

@@ -1,5 +1,0 @@
-use Rattle.record.proofs.Scanning.{SoFar}
-use Rattle.record.proofs.number.number_at.Given as goal
-
-abbrev pub invariant-loop-i : goal.invariant-loop-i
-invariant-loop-i l = SoFar l.bytes l.i l.value l.weight
