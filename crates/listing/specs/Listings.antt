@@ -11,7 +11,7 @@ use Rattle.listing.specs.declared.file.Listing.{Listing}
 -- P holds of what the answer tells: the job number, the events and what stopped them; or no job number, no event and
 -- why. Where memory ran out it tells nothing
 abbrev pub Tells : (Option ℕ → List (Event Cell) → Option ByteRefusal → Type 0) → Result Listing ListError → Type 0
-Tells P (Ok l) = P (Some l.job) (vec_items l.events) l.fault
+Tells P (Ok l) = P (Some l.job) (vec_items l.events) l.refusal
 Tells P (Err (Refused r)) = P None [] (Some r)
 Tells P (Err (OutOfMemory e)) = Unit {0}
 

@@ -37,6 +37,7 @@ impl fmt::Display for ListError {
     fn fmt<W: fmt::Write>(&self, f: &mut fmt::Formatter<W>) -> fmt::Result {
         match self {
             ListError::Refused(refusal) => write!(f, "{refusal}"),
+            // The text of an `AllocError` stands in no contract of the kit, so a clause could not say it.
             ListError::OutOfMemory(_) => write!(f, "out of memory"),
         }
     }

@@ -2,7 +2,8 @@
 ghost use Rattle.std.specs.Prelude.{◌≡◌, ◌≤◌, ◌↔◌, length, IfOk, IsTrue};
 ghost use Rattle.record.specs.Events.{file_form};
 ghost use Rattle.record.specs.Readers.{left_of};
-ghost use Rattle.listing.specs.Files.{Fits, EventsRead, Listed, OnlyListing, ReadsBack, WritesBack, file_parts, PartsWritten, PartsCall, FileWritten};
+ghost use Rattle.listing.specs.Files.{Fits, EventsRead, Listed, OnlyListing, ReadsBack, WritesBack};
+ghost use Rattle.listing.specs.Files.{file_parts, PartsWritten, PartsCall, FileWritten};
 ghost use Rattle.listing.specs.Listings.{Tells};
 
 use crate::error::ListError;
@@ -16,7 +17,27 @@ pub struct Listing {
     pub job: u64,
     pub events: Vec<Event<Cell>>,
     // what stopped the events, if anything did
-    pub fault: Option<ByteRefusal>,
+    pub refusal: Option<ByteRefusal>,
+}
+
+// A job number and its events, which a file holds.
+#[derive(Clone, Copy, PartialEq, Eq, Debug)]
+pub struct Recording<'a> {
+    pub job: u64,
+    pub events: &'a [Event<Cell>],
+}
+
+impl Listing {
+    // What was read, to be written again.
+    pub fn recording(&self) -> Recording<'_>
+        ensures job { result.job ≡ self.now.job }
+        ensures events { result.events.now ≡ self.now.events.items }
+    {
+        Recording {
+            job: self.job,
+            events: self.events.as_slice(),
+        }
+    }
 }
 
 // The events before which `reader` stands, to the end of the file or to the first fault.
@@ -46,35 +67,20 @@ pub fn list(alloc: Global, bytes: &[u8]) -> Result<Listing, ListError>
     let mut reader = Reader::new(bytes);
     reader.heading()?;
     let job = reader.job()?;
-    let (events, fault) = read_events(alloc, &mut reader)?;
-    Ok(Listing { job, events, fault })
-}
-
-// A job number and its events, which a file holds.
-#[derive(Clone, Copy, PartialEq, Eq, Debug)]
-pub struct Recording<'a> {
-    pub job: u64,
-    pub events: &'a [Event<Cell>],
-}
-
-impl Listing {
-    // What was read, to be written again.
-    pub fn recording(&self) -> Recording<'_>
-        ensures job { result.job ≡ self.now.job }
-        ensures events { result.events.now ≡ self.now.events.items }
-    {
-        Recording {
-            job: self.job,
-            events: self.events.as_slice(),
-        }
-    }
+    let (events, refusal) = read_events(alloc, &mut reader)?;
+    Ok(Listing {
+        job,
+        events,
+        refusal,
+    })
 }
 
 impl Recording<'_> {
     // Writes the file at the place of `writer`. The parts before one that is refused stay written.
     fn write_on(self, writer: &mut Writer<'_>) -> Result<(), ByteRefusal>
         requires { writer.old.place ≤ length writer.old.buf.now }
-        ensures { PartsCall (file_parts self.entry.job self.entry.events.now) writer.old result writer.new }
+        ensures { let r = self.entry in
+            PartsCall (file_parts r.job r.events.now) writer.old result writer.new }
     {
         writer.heading()?;
         writer.job(self.job)?;
@@ -88,7 +94,8 @@ impl Recording<'_> {
     // the buffer is never a caller's.
     fn write(self, buf: &mut [u8]) -> Result<usize, ByteRefusal>
         ensures written { FileWritten self.entry.job self.entry.events.now buf.old result buf.new }
-        ensures parts { PartsWritten (file_parts self.entry.job self.entry.events.now) buf.old 0 result buf.new }
+        ensures parts { let r = self.entry in
+            PartsWritten (file_parts r.job r.events.now) buf.old 0 result buf.new }
     {
         let mut writer = Writer::new(buf, 0);
         self.write_on(&mut writer)?;

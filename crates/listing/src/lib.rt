@@ -1,4 +1,5 @@
-// A whole record file: listed line by line, and written again.
+// A whole record file: listed line by line, and written again. What allocates is passed the allocator, beside the bytes of a
+// file where it needs those, as in the kit's library: a struct of the two would keep an allocator where bytes are meant.
 #![tactic(auto)]
 
 mod error;

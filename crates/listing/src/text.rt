@@ -2,7 +2,7 @@
 ghost use Rattle.std.specs.Prelude.{◌≡◌, [], ◌∷◌, ◌++◌, length, IfOk, Some, OnOk};
 ghost use Rattle.listing.specs.declared.line.Line.TheVariants.{Refused};
 ghost use Rattle.listing.specs.Files.{Listed};
-ghost use Rattle.listing.specs.Lines.{Told, event_lines, last_line, lines_of};
+ghost use Rattle.listing.specs.Lines.{Told, event_lines, lines_of};
 
 use crate::error::ListError;
 use crate::file::{Listing, list};
@@ -28,29 +28,23 @@ fn push_events(lines: &mut Vec<Line>, events: &[Event<Cell>]) -> Result<(), Allo
 }
 
 impl Listing {
-    // The last line of the file that this lists: where nothing stopped it, it is written again and compared.
-    fn end_line(&self, alloc: Global, bytes: &[u8]) -> Result<Line, AllocError>
-        requires { Listed bytes.now (Some self.now.job) self.now.events.items self.now.fault }
-        ensures { IfOk result (λ line. line ≡ last_line (length bytes.now) self.now.events.items self.now.fault) }
-    {
-        match self.fault {
-            Some(refusal) => Ok(Line::Refused { refusal }),
-            None => Ok(Line::Summary {
-                events: self.events.len(),
-                bytes: bytes.len(),
-                again: self.recording().written_again(alloc, bytes)?.into(),
-            }),
-        }
-    }
-
-    // The job, its events, and how they end.
-    fn lines(&self, alloc: Global, bytes: &[u8]) -> Result<Vec<Line>, AllocError>
-        requires { Listed bytes.now (Some self.now.job) self.now.events.items self.now.fault }
-        ensures { let l = self.now in IfOk result (λ v. v.items ≡ lines_of (length bytes.now) (Some l.job) l.events.items l.fault) }
+    // The lines of `bytes`, of which this is the listing: the job, the events, and how they end. What nothing stopped is written
+    // again and compared.
+    fn to_lines(&self, alloc: Global, bytes: &[u8]) -> Result<Vec<Line>, AllocError>
+        requires { Listed bytes.now (Some self.now.job) self.now.events.items self.now.refusal }
+        ensures { let l = self.now in
+            IfOk result (λ v. v.items ≡ lines_of (length bytes.now) (Some l.job) l.events.items l.refusal) }
     {
         let mut lines = vec![in alloc; Line::Job { job: self.job }]?;
         push_events(&mut lines, self.events.as_slice())?;
-        lines.push(self.end_line(alloc, bytes)?)?;
+        lines.push(match self.refusal {
+            Some(refusal) => Line::Refused { refusal },
+            None => Line::Summary {
+                events: self.events.len(),
+                bytes: bytes.len(),
+                again: self.recording().written_again(alloc, bytes)?.into(),
+            },
+        })?;
         Ok(lines)
     }
 }
@@ -70,7 +64,7 @@ pub fn lines(alloc: Global, bytes: &[u8]) -> Result<Vec<Line>, AllocError>
         return refused_line(alloc, ByteFault::NoRoom.at(LIMIT));
     }
     match list(alloc, bytes) {
-        Ok(listing) => listing.lines(alloc, bytes),
+        Ok(listing) => listing.to_lines(alloc, bytes),
         Err(ListError::Refused(refusal)) => refused_line(alloc, refusal),
         Err(ListError::OutOfMemory(error)) => Err(error),
     }

@@ -18,19 +18,16 @@ parted : (xs ys : List ℕ) → ((r : List ℕ) → xs ≢ ys ++ r) → ((r : Li
 parted [] ys p q = absurd (q ys refl)
 parted (x ∷ xs) [] p q = absurd (p (x ∷ xs) refl)
 parted (x ∷ xs) (y ∷ ys) p q = elim (eqb_tells x y) [
-  | inl e ↦ later (parted xs ys (λ r h. p r (λ i. e.1 i ∷ h i)) (λ r h. q r (λ i. sym e.1 i ∷ h i)))
+  | inl e ↦ let d = parted xs ys (λ r h. p r cc) (λ r h. q r cc) in record { at = suc d.at; within = omega (arith, d.within); there = omega (arith, d.there); wrong = d.wrong }
   | inr e ↦ record { at = 0; within = omega arith; there = omega arith; wrong = e.1 }
 ]
-  where
-    later : Parted xs ys → Parted (x ∷ xs) (y ∷ ys)
-    later d = record { at = suc d.at; within = (let h = d.within in omega arith); there = (let h = d.there in omega arith); wrong = d.wrong }
 
 -- the bytes end inside the heading
 short : (bytes : List ℕ) → ((r : List ℕ) → bytes ≢ heading ++ r) → heading ≡ bytes ++ drop (length bytes) heading → ShortHeading bytes
 short bytes p e = record { missing = drop (length bytes) heading; front = e; some = go (drop (length bytes) heading) e }
   where
     go : (m : List ℕ) → heading ≡ bytes ++ m → 0 < length m
-    go [] h = let all = rw append-nil at h in absurd (p [] (sym all))
+    go [] h = absurd (p [] (rw append-nil at (sym h)))
     go (x ∷ m) h = omega arith
 
 -- what the two tests of the code tell

@@ -5,7 +5,6 @@ pub mod Reading
 pub mod Laying
 pub mod Writing
 pub mod Forms
-pub mod Passing
 pub mod OneNumber
 pub mod OneEvent
 pub mod OneHeading

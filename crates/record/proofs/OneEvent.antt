@@ -1,16 +1,16 @@
 -- Bytes begin with at most one event, and are refused for at most one reason: a computed reading answers once.
-use Rattle.std.proofs.Common.{◌≡◌, ℕ, zero, suc, ◌^◌, ◌<◌, Bool, true, false, cond, ◌&&◌, eqb, ltb, ◌⊎◌, List, [], ◌∷◌, ◌++◌, length, get_or, sym, refl, ap, ◌∙◌, inl, inr, arith}
+use Rattle.std.proofs.Common.{◌≡◌, ℕ, zero, suc, ◌^◌, ◌<◌, Bool, true, false, cond, ◌&&◌, eqb, ltb, List, [], ◌∷◌, ◌++◌, length, get_or, refl, ap, arith}
 use Rattle.std.proofs.lemmas.List.{append_assoc}
-use Rattle.std.proofs.lemmas.Bool.{cond-true, cond-false, lt-ltb, le-ltb, and_from, and_left, and_right}
+use Rattle.std.proofs.lemmas.Bool.Decides.{nat_tests}
 use Rattle.model.specs.declared.Cell.{Cell}
 use Rattle.model.specs.declared.Event.{Event}
 use Rattle.model.specs.declared.Event.TheVariants.{Spawn, End, Open, Close, Read, Write}
 use Rattle.record.specs.declared.fault.ByteFault.{ByteFault}
 use Rattle.record.specs.declared.fault.ByteFault.TheVariants.{Short, UnknownKind}
-use Rattle.record.specs.Numbers.{number_form, numbers_form, InRange, NumbersRead, NumbersRefused}
+use Rattle.record.specs.Numbers.{number_form, numbers_form, InRange}
 use Rattle.record.specs.Events.{kind_of, numbers_of, count_of, event_form, EventRead, EventRefused, nothing, unknown, stopped}
 use Rattle.record.specs.Laws.{EventsApart}
-use Rattle.record.proofs.OneNumber.{Out, got, fault, and_then, got_or_fault, first_number, number_got, number_fault}
+use Rattle.record.proofs.OneNumber.{Out, got, fault, and_then, first_number, number_got, number_fault}
 
 -- a number in front of those read after it
 abbrev in_front : ℕ → Out (List ℕ) → Out (List ℕ)
@@ -21,15 +21,10 @@ abbrev first_numbers : ℕ → List ℕ → Out (List ℕ)
 first_numbers zero bs = got [] bs
 first_numbers (suc k) bs = and_then (first_number bs) (λ n rest. in_front n (first_numbers k rest))
 
-numbers_next : (k : ℕ) (bs : List ℕ) (o : Out ℕ) → first_number bs ≡ o → first_numbers (suc k) bs ≡ and_then o (λ n rest. in_front n (first_numbers k rest))
-numbers_next k bs o e = ap (λ (x : Out ℕ). and_then x (λ n rest. in_front n (first_numbers k rest))) e
-
 -- a form in front of other forms
 numbers_more : (k n : ℕ) (ns rest : List ℕ) (o : Out (List ℕ)) → n < 2 ^ 63 → first_numbers k (numbers_form ns ++ rest) ≡ o → first_numbers (suc k) (numbers_form (n ∷ ns) ++ rest) ≡ in_front n o
 numbers_more k n ns rest o h e =
-    let after : List ℕ = numbers_form ns ++ rest in
-    let one : first_number (numbers_form (n ∷ ns) ++ rest) ≡ got n after = number_got (numbers_form (n ∷ ns) ++ rest) n after (h, append_assoc (number_form n) (numbers_form ns) rest) in
-    numbers_next k (numbers_form (n ∷ ns) ++ rest) (got n after) one ∙ ap (in_front n) e
+    rw (number_got (numbers_form (n ∷ ns) ++ rest) n (numbers_form ns ++ rest) (h, append_assoc (number_form n) (numbers_form ns) rest), e)
 
 -- the forms of numbers are read back
 numbers_form_got : (ns rest : List ℕ) → InRange ns → first_numbers (length ns) (numbers_form ns ++ rest) ≡ got ns rest
@@ -38,28 +33,9 @@ numbers_form_got (n ∷ ns) rest h = numbers_more (length ns) n ns rest (got ns 
 
 -- a fault after the forms of fewer numbers than are asked for is the answer
 numbers_form_fault : (count : ℕ) (ns rest : List ℕ) (f : ByteFault) → InRange ns → length ns < count → first_number rest ≡ fault f → first_numbers count (numbers_form ns ++ rest) ≡ fault f
-numbers_form_fault zero ns rest f h l e = let z : ⊥ = omega arith in absurd z
-numbers_form_fault (suc k) [] rest f h l e = numbers_next k rest (fault f) e
+numbers_form_fault zero ns rest f h l e = absurd (omega arith)
+numbers_form_fault (suc k) [] rest f h l e = rw e
 numbers_form_fault (suc k) (n ∷ ns) rest f h l e = numbers_more k n ns rest (fault f) h.0 (numbers_form_fault k ns rest f h.1 (omega arith) e)
-
-numbers_got : (count : ℕ) (bs ns rest : List ℕ) → length ns ≡ count → NumbersRead bs ns rest → first_numbers count bs ≡ got ns rest
-numbers_got count bs ns rest l (h, e) = cc (numbers_form_got ns rest h)
-
-numbers_fault : (count : ℕ) (bs : List ℕ) (f : ByteFault) → NumbersRefused count bs f → first_numbers count bs ≡ fault f
-numbers_fault count bs f r = ap (first_numbers count) r.read.1 ∙ numbers_form_fault count r.numbers r.rest f r.read.0 r.fewer (number_fault r.rest f r.why)
-
--- no two lists of as many numbers have one form, and no form begins another
-pub numbers_prefix : (ms ns : List ℕ) (r s : List ℕ) → InRange ms → InRange ns → length ms ≡ length ns → numbers_form ms ++ r ≡ numbers_form ns ++ s → (ms ≡ ns) × (r ≡ s)
-numbers_prefix ms ns r s h k l e =
-    let p = numbers_form_got ms r h in
-    let q = numbers_got (length ms) (numbers_form ms ++ r) ns s (sym l) (k, e) in
-    (cc, cc)
-
-pub numbers_not_refused : (count : ℕ) (bs ns rest : List ℕ) (f : ByteFault) → length ns ≡ count → NumbersRead bs ns rest → NumbersRefused count bs f → ⊥
-numbers_not_refused count bs ns rest f l r q = got_or_fault (first_numbers count bs) ns rest f (numbers_got count bs ns rest l r) (numbers_fault count bs f q)
-
-pub numbers_one_fault : (count : ℕ) (bs : List ℕ) (f g : ByteFault) → NumbersRefused count bs f → NumbersRefused count bs g → f ≡ g
-numbers_one_fault count bs f g p q = cc (numbers_fault count bs f p, numbers_fault count bs g q)
 
 cell : List ℕ → Cell
 cell ns = record { mailbox = get_or ns 1 0; block = get_or ns 2 0 }
@@ -79,33 +55,23 @@ abbrev first_event : List ℕ → Out (Event Cell)
 first_event [] = fault Short
 first_event (k ∷ bs) = cond (known k) (of_kind k (first_numbers (count_of k) bs)) (fault UnknownKind)
 
-event_known : (k : ℕ) (bs : List ℕ) (o : Out (List ℕ)) → known k ≡ true → first_numbers (count_of k) bs ≡ o → first_event (k ∷ bs) ≡ of_kind k o
-event_known k bs o h e = cond-true (known k) (of_kind k (first_numbers (count_of k) bs)) (fault UnknownKind) h ∙ ap (of_kind k) e
-
 -- an event is told by its kind and its numbers
 told : (e : Event Cell) → (known (kind_of e) ≡ true) × (length (numbers_of e) ≡ count_of (kind_of e)) × (made (kind_of e) (numbers_of e) ≡ e)
 unfolding cell
 told (Spawn t u) = (refl, refl, refl)
-told (End t) = (refl, refl, refl)
-told (Open t) = (refl, refl, refl)
-told (Close t) = (refl, refl, refl)
-told (Read t c) = (refl, refl, refl)
-told (Write t c) = (refl, refl, refl)
+told _ = (refl, refl, refl)
 
 event_got : (bs : List ℕ) (e : Event Cell) (rest : List ℕ) → EventRead bs e rest → first_event bs ≡ got e rest
 event_got bs e rest (h, eq) =
-    let after : List ℕ = numbers_form (numbers_of e) ++ rest in
-    let numbers : first_numbers (count_of (kind_of e)) after ≡ got (numbers_of e) rest = numbers_got (count_of (kind_of e)) after (numbers_of e) rest (told e).1 (h, refl) in
-    ap first_event eq ∙ (event_known (kind_of e) after (got (numbers_of e) rest) (told e).0 numbers ∙ ap (λ (x : Event Cell). got x rest) (told e).2)
-
-unknown_kind : (k : ℕ) → (k < 1) ⊎ (6 < k) → known k ≡ false
-unknown_kind k (inl h) = and_left (ltb 0 k) (ltb k 7) (le-ltb 0 k (omega arith))
-unknown_kind k (inr h) = and_right (ltb 0 k) (ltb k 7) (le-ltb k 7 (omega arith))
+    let (there, count, same) = told e in
+    rw (eq, there, ← count, numbers_form_got (numbers_of e) rest h, same)
 
 event_fault : (bs : List ℕ) (f : ByteFault) → EventRefused bs f → first_event bs ≡ fault f
 event_fault bs _ (nothing e) = ap first_event e
-event_fault bs _ (unknown k more e h) = ap first_event e ∙ cond-false (known k) (of_kind k (first_numbers (count_of k) more)) (fault UnknownKind) (unknown_kind k h)
-event_fault bs _ (stopped k more f e low high r) = ap first_event e ∙ event_known k more (fault f) (and_from (ltb 0 k) (ltb k 7) (lt-ltb 0 k (omega arith)) (lt-ltb k 7 (omega arith))) (numbers_fault (count_of k) more f r)
+event_fault bs _ (unknown k more e h) = let other : known k ≡ false = grind (arith, nat_tests) in rw (e, other)
+event_fault bs _ (stopped k more f e low high r) =
+    let there : known k ≡ true = grind (arith, nat_tests) in
+    rw (e, there, r.read.1, numbers_form_fault (count_of k) r.numbers r.rest f r.read.0 r.fewer (number_fault r.rest f r.why))
 
 pub events_apart : EventsApart
 events_apart d e r s h k eq =
@@ -114,7 +80,7 @@ events_apart d e r s h k eq =
     (cc, cc)
 
 pub event_not_refused : (bs : List ℕ) (e : Event Cell) (rest : List ℕ) (f : ByteFault) → EventRead bs e rest → EventRefused bs f → ⊥
-event_not_refused bs e rest f r q = got_or_fault (first_event bs) e rest f (event_got bs e rest r) (event_fault bs f q)
+event_not_refused bs e rest f r q = cc (event_got bs e rest r, event_fault bs f q)
 
 pub event_one_fault : (bs : List ℕ) (f g : ByteFault) → EventRefused bs f → EventRefused bs g → f ≡ g
 event_one_fault bs f g p q = cc (event_fault bs f p, event_fault bs g q)

@@ -1,12 +1,11 @@
 -- Bytes begin with at most one number, and are refused for at most one reason: a computed reading answers once.
-use Rattle.std.proofs.Common.{◌≡◌, ℕ, zero, suc, ◌+◌, ◌-◌, ◌*◌, ◌/◌, ◌%◌, ◌^◌, ◌<◌, ◌≤◌, cond, eqb, ltb, ◌⊎◌, List, [], ◌∷◌, ◌++◌, length, refl, ap, ◌∙◌, inl, inr, pow-suc, arith}
+use Rattle.std.proofs.Common.{◌≡◌, ℕ, zero, suc, ◌+◌, ◌-◌, ◌*◌, ◌/◌, ◌^◌, ◌<◌, ◌≤◌, cond, eqb, ltb, ◌⊎◌, List, [], ◌∷◌, ◌++◌, length, refl, inl, inr, pow-suc, arith}
 use Rattle.std.proofs.lemmas.List.{append-nil}
-use Rattle.std.proofs.lemmas.Bool.{cases_lt, cond-true, cond-false, lt-ltb, le-ltb, ne_eqb}
+use Rattle.std.proofs.lemmas.Bool.Decides.{nat_tests}
 use Rattle.record.specs.declared.fault.ByteFault.{ByteFault}
-use Rattle.record.specs.declared.fault.ByteFault.TheVariants.{WrongHeading, Short, BadNumber, UnknownKind, NoRoom, TooLarge}
+use Rattle.record.specs.declared.fault.ByteFault.TheVariants.{Short, BadNumber}
 use Rattle.record.specs.Numbers.{groups, number_form, GoesOn, NumberRead, NumberRefused}
 use Rattle.record.specs.Laws.{NumbersApart}
-use Rattle.record.proofs.Groups.{groups_last, groups_more}
 
 -- what reading answers: what was read and the bytes after it, or why nothing was
 pub data Out (A : Type 0) : Type 0 where
@@ -18,10 +17,6 @@ abbrev pub and_then : {A B : Type 0} → Out A → (A → List ℕ → Out B) �
 and_then (got x rest) next = next x rest
 and_then (fault f) next = fault f
 
--- one answer is not both
-pub got_or_fault : {A : Type 0} (o : Out A) (x : A) (rest : List ℕ) (f : ByteFault) → o ≡ got x rest → o ≡ fault f → ⊥
-got_or_fault o x rest f p q = let z : ◌≡◌ {A = ℕ} 0 1 = cc in omega arith
-
 -- a byte that goes on, in front of the number m: a last byte 0 after it is refused
 abbrev above : ℕ → ℕ → List ℕ → Out ℕ
 above b m rest = cond (eqb m 0) (fault BadNumber) (got ((b - 128) + m * 128) rest)
@@ -32,37 +27,16 @@ scan zero bs = fault BadNumber
 scan (suc k) [] = fault Short
 scan (suc k) (b ∷ bs) = cond (ltb b 128) (got b bs) (and_then (scan k bs) (above b))
 
-scan_last : (k b : ℕ) (bs : List ℕ) → b < 128 → scan (suc k) (b ∷ bs) ≡ got b bs
-scan_last k b bs h = cond-true (ltb b 128) (got b bs) (and_then (scan k bs) (above b)) (lt-ltb b 128 h)
-
-scan_more : (k b : ℕ) (bs : List ℕ) (o : Out ℕ) → 128 ≤ b → scan k bs ≡ o → scan (suc k) (b ∷ bs) ≡ and_then o (above b)
-scan_more k b bs o h e = cond-false (ltb b 128) (got b bs) (and_then (scan k bs) (above b)) (le-ltb b 128 h) ∙ ap (λ (x : Out ℕ). and_then x (above b)) e
-
--- a group is put back in front of the number above it
-above_group : (n : ℕ) (rest : List ℕ) → 128 ≤ n → above (128 + n % 128) (n / 128) rest ≡ got n rest
-above_group n rest h =
-    let some : n / 128 ≡ 0 → ⊥ = λ (e : n / 128 ≡ 0). omega arith in
-    let whole : (128 + n % 128 - 128) + n / 128 * 128 ≡ n = omega arith in
-    cond-false (eqb (n / 128) 0) (fault BadNumber) (got ((128 + n % 128 - 128) + n / 128 * 128) rest) (ne_eqb (n / 128) 0 some) ∙ ap (λ (x : ℕ). got x rest) whole
-
-form_last : (k n : ℕ) (rest : List ℕ) → n < 128 → scan (suc k) (groups (suc k) n ++ rest) ≡ got n rest
-form_last k n rest h = ap (λ (bs : List ℕ). scan (suc k) (bs ++ rest)) (groups_last k n h) ∙ scan_last k n rest h
-
-form_more : (k n : ℕ) (rest : List ℕ) → 128 ≤ n → scan k (groups k (n / 128) ++ rest) ≡ got (n / 128) rest → scan (suc k) (groups (suc k) n ++ rest) ≡ got n rest
-form_more k n rest h e =
-    let more : scan (suc k) ((128 + n % 128) ∷ (groups k (n / 128) ++ rest)) ≡ above (128 + n % 128) (n / 128) rest = scan_more k (128 + n % 128) (groups k (n / 128) ++ rest) (got (n / 128) rest) (omega arith) e in
-    ap (λ (bs : List ℕ). scan (suc k) (bs ++ rest)) (groups_more k n h) ∙ (more ∙ above_group n rest h)
-
 -- a form is read back
 scan_groups : (k n : ℕ) (rest : List ℕ) → n < 128 ^ k → (0 < n) ⊎ (0 < k) → scan k (groups k n ++ rest) ≡ got n rest
-scan_groups zero n rest h p = let z : ⊥ = elim p [ inl q ↦ omega arith | inr q ↦ omega arith ] in absurd z
-scan_groups (suc k) n rest h p = elim (cases_lt n 128) [ inl l ↦ form_last k n rest l | inr l ↦ form_more k n rest l (scan_groups k (n / 128) rest (omega (arith, pow-suc 128 k)) (inl (omega arith))) ]
+scan_groups zero n rest h p = grind arith
+scan_groups (suc k) n rest h p = grind (arith, nat_tests, pow-suc 128 k, scan_groups k (n / 128) rest)
 
 -- after bytes that go on, the fault is that of what follows them
 scan_on : (k j b : ℕ) (front rest : List ℕ) (f : ByteFault) → k ≡ length front + j → 128 ≤ b → GoesOn front → ((c : ℕ) → and_then (scan j rest) (above c) ≡ fault f) → scan (suc k) (b ∷ (front ++ rest)) ≡ fault f
-scan_on k j b [] rest f e h goes ends = scan_more k b rest (scan j rest) h (ap (λ (x : ℕ). scan x rest) (omega arith)) ∙ ends b
-scan_on zero j b (c ∷ front) rest f e h goes ends = let z : ⊥ = omega arith in absurd z
-scan_on (suc k) j b (c ∷ front) rest f e h goes ends = scan_more (suc k) b (c ∷ (front ++ rest)) (fault f) h (scan_on k j c front rest f (omega arith) goes.0 goes.1 ends)
+scan_on k j b [] rest f e h goes ends = grind (arith, nat_tests, ends b)
+scan_on zero j b (c ∷ front) rest f e h goes ends = absurd (omega arith)
+scan_on (suc k) j b (c ∷ front) rest f e h goes ends = grind (arith, nat_tests, scan_on k j c front rest f (omega arith) goes.0 goes.1 ends)
 
 -- bytes that run out
 scan_short : (bs : List ℕ) → GoesOn bs → length bs < 9 → scan 9 bs ≡ fault Short
@@ -71,9 +45,9 @@ scan_short (b ∷ bs) goes h = rw append-nil at (scan_on 8 (suc (7 - length bs))
 
 -- a ninth byte that goes on, or a last byte 0 after the first
 scan_bad : (front rest : List ℕ) → GoesOn front → (length front ≡ 9) ⊎ ((0 < length front) × (length front < 9) × ((more : List ℕ) × (rest ≡ 0 ∷ more))) → scan 9 (front ++ rest) ≡ fault BadNumber
-scan_bad [] rest goes bad = let z : ⊥ = elim bad [ inl e ↦ omega arith | inr e ↦ omega arith ] in absurd z
+scan_bad [] rest goes bad = grind arith
 scan_bad (b ∷ front) rest goes (inl e) = scan_on 8 0 b front rest BadNumber (omega arith) goes.0 goes.1 (λ c. refl)
-scan_bad (b ∷ front) rest goes (inr (some, few, (more, e))) = ap (λ (x : List ℕ). scan 9 (b ∷ (front ++ x))) e ∙ scan_on 8 (suc (7 - length front)) b front (0 ∷ more) BadNumber (omega arith) goes.0 goes.1 (λ c. refl)
+scan_bad (b ∷ front) rest goes (inr (some, few, (more, e))) = rw e (scan_on 8 (suc (7 - length front)) b front (0 ∷ more) BadNumber (omega arith) goes.0 goes.1 (λ c. refl))
 
 -- the number that bytes begin with
 pub first_number : List ℕ → Out ℕ
@@ -81,16 +55,13 @@ first_number bs = scan 9 bs
 
 pub number_got : (bs : List ℕ) (n : ℕ) (rest : List ℕ) → NumberRead bs n rest → first_number bs ≡ got n rest
 unfolding number_form first_number
-number_got bs n rest (h, e) = ap (scan 9) e ∙ scan_groups 9 n rest h (inr (omega arith))
+number_got bs n rest (h, e) = rw e (scan_groups 9 n rest h (inr (omega arith)))
 
 pub number_fault : (bs : List ℕ) (f : ByteFault) → NumberRefused bs f → first_number bs ≡ fault f
 unfolding first_number
-number_fault bs WrongHeading r = absurd r
 number_fault bs Short (goes, h) = scan_short bs goes h
-number_fault bs BadNumber r = ap (scan 9) r.cut ∙ scan_bad r.front r.rest r.goes r.bad
-number_fault bs UnknownKind r = absurd r
-number_fault bs NoRoom r = absurd r
-number_fault bs TooLarge r = absurd r
+number_fault bs BadNumber r = rw r.cut (scan_bad r.front r.rest r.goes r.bad)
+number_fault bs _ r = absurd r
 
 pub numbers_apart : NumbersApart
 numbers_apart m n r s h k e =
@@ -99,7 +70,7 @@ numbers_apart m n r s h k e =
     (cc, cc)
 
 pub number_not_refused : (bs : List ℕ) (n : ℕ) (rest : List ℕ) (f : ByteFault) → NumberRead bs n rest → NumberRefused bs f → ⊥
-number_not_refused bs n rest f r q = got_or_fault (first_number bs) n rest f (number_got bs n rest r) (number_fault bs f q)
+number_not_refused bs n rest f r q = cc (number_got bs n rest r, number_fault bs f q)
 
 pub number_one_fault : (bs : List ℕ) (f g : ByteFault) → NumberRefused bs f → NumberRefused bs g → f ≡ g
 number_one_fault bs f g p q = cc (number_fault bs f p, number_fault bs g q)

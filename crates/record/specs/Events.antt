@@ -6,17 +6,19 @@ use Rattle.model.specs.declared.Event.{Event}
 use Rattle.model.specs.declared.Event.TheVariants.{Spawn, End, Open, Close, Read, Write}
 use Rattle.record.specs.declared.fault.ByteFault.{ByteFault}
 use Rattle.record.specs.declared.fault.ByteFault.TheVariants.{Short, UnknownKind}
+use Rattle.record.specs.declared.kind.Kind.TheVariants as kinds
+use Rattle.record.specs.Kinds.{byte_of}
 use Rattle.record.specs.Numbers.{number_form, numbers_form, InRange, NumbersRefused}
 use Rattle.record.specs.Heading.{heading}
 
 -- the byte of an event's kind
 abbrev pub kind_of : Event Cell → ℕ
-kind_of (Spawn t u) = 1
-kind_of (End t) = 2
-kind_of (Open t) = 3
-kind_of (Close t) = 4
-kind_of (Read t c) = 5
-kind_of (Write t c) = 6
+kind_of (Spawn t u) = byte_of kinds.Spawn
+kind_of (End t) = byte_of kinds.End
+kind_of (Open t) = byte_of kinds.Open
+kind_of (Close t) = byte_of kinds.Close
+kind_of (Read t c) = byte_of kinds.Read
+kind_of (Write t c) = byte_of kinds.Write
 
 -- the numbers that follow it: the task, then the child, or the cell's mailbox and block
 abbrev pub numbers_of : Event Cell → List ℕ

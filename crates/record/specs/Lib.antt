@@ -1,6 +1,5 @@
 pub mod Faults
 pub mod Kinds
-pub mod Checked
 pub mod Numbers
 pub mod Heading
 pub mod Events

@@ -12,14 +12,17 @@ use model::{Cell, Event};
 
 // A cell, and the bytes after it.
 fn read_cell(bytes: &[u8]) -> Result<(Cell, &[u8]), ByteFault>
-    ensures { MatchResult result (λ p. NumbersRead bytes.now (p.0.mailbox ∷ p.0.block ∷ []) p.1.now) (λ f. NumbersRefused 2 bytes.now f) }
+    ensures { MatchResult result
+        (λ p. NumbersRead bytes.now (p.0.mailbox ∷ p.0.block ∷ []) p.1.now)
+        (λ f. NumbersRefused 2 bytes.now f) }
 {
     let (mailbox, rest) = read_number(bytes)?;
     let (block, rest) = read_number(rest)?;
     Ok((Cell { mailbox, block }, rest))
 }
 
-// The event of a kind, from the bytes after its kind byte.
+// The event of a kind, from the bytes after its kind byte. Each variant is made in an arm of its own: no value stands for a
+// variant's name.
 fn read_body(kind: Kind, bytes: &[u8]) -> Result<(Event<Cell>, &[u8]), ByteFault>
     ensures { Answer EventRead EventRefused (byte_of kind ∷ bytes.now) result }
 {

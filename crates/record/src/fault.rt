@@ -3,6 +3,7 @@ ghost use Rattle.std.specs.Prelude.{◌≡◌, Some};
 ghost use Rattle.record.specs.Faults.{number_of, layer_of, refusal_text};
 
 use model::Layer;
+use std::error::Error;
 use std::fmt;
 
 #[derive(Clone, Copy, PartialEq, Eq, Debug)]
@@ -45,12 +46,14 @@ impl ByteFault {
     }
 }
 
-// A fault and its place: on reading the first byte of the heading, the job number or the event; on writing the index.
+// A fault and its place: on reading the first byte of the heading, the job number or the event; on writing where the writer stands.
 #[derive(Clone, Copy, PartialEq, Eq, Debug)]
 pub struct ByteRefusal {
     pub fault: ByteFault,
     pub place: usize,
 }
+
+impl Error for ByteRefusal {}
 
 impl fmt::Display for ByteRefusal {
     ghost output = { λ r. Some (refusal_text r) };

@@ -1,33 +1,77 @@
-// The bytes of a number's form, one after another.
-ghost use Rattle.std.specs.Prelude.{◌^◌, ◌<◌};
+// The bytes of numbers' forms, one after another.
+ghost use Rattle.std.specs.Prelude.{◌^◌, ◌<◌, ◌↔◌, IsTrue};
+ghost use Rattle.std.proofs.Props.{props};
 ghost use Rattle.std.specs.Option.{ForSome};
+ghost use Rattle.record.specs.Numbers.{InRange};
 
+use crate::fault::ByteFault;
 use crate::number::{GOES_ON, GROUP};
+use model::LARGEST;
 
-// The number of the bytes that are still to come, the lowest group first; none after the last byte.
-#[derive(Drop)]
-pub(crate) struct Form {
-    rest: Option<u64>,
-    ghost in_range: { ForSome rest (λ n. n < 2 ^ 63) },
+// What is still to come: the groups of `number`, the lowest first, and then the forms of `rest`. A `flat_map` over the numbers
+// would be made twice, to count and to write, and its closure would ask each time for numbers in range.
+// `Copy`: beside ghost fields the kit derives no `Clone` alone. `by` shows that a fact has one proof at most, as it must here.
+#[derive(Clone, Copy)]
+pub(crate) struct FormBytes<'a> {
+    number: Option<u64>,
+    rest: &'a [u64],
+    ghost number_fits: { ForSome number (λ n. n < 2 ^ 63) },
+    ghost rest_fits: { InRange rest.now } by { Prim.hlevel props },
 }
 
-impl Form {
-    ghost use Rattle.std.specs.Prelude.{◌≡◌, ◌^◌, ◌<◌, ◌≤◌, length};
-    ghost use Rattle.record.specs.Numbers.{number_form};
-    ghost use Rattle.record.specs.Forms.{form_left};
+// Whether each number has a form.
+fn in_range(numbers: &[u64]) -> bool
+    ensures { IsTrue result ↔ InRange numbers.now }
+{
+    numbers.iter().all(|number| *number <= LARGEST)
+}
 
-    // The whole form of `number`: nine bytes at most.
-    #[tactic(auto, using(crate::proofs::Forms::form_length))]
-    pub(crate) fn of(number: u64) -> Form
-        requires { number < 2 ^ 63 }
-        ensures whole { form_left result ≡ number_form number }
-        ensures short { length (form_left result) ≤ 9 }
-    {
-        Form { rest: Some(number) }
+impl<'a> TryFrom<&'a [u64]> for FormBytes<'a> {
+    ghost use Rattle.record.specs.Forms.{Formed};
+
+    type Error = ByteFault;
+
+    ghost try_from_gives = { λ numbers r. Formed numbers.now r };
+
+    fn try_from(numbers: &'a [u64]) -> Result<FormBytes<'a>, ByteFault> {
+        if in_range(numbers) {
+            Ok(FormBytes {
+                number: None,
+                rest: numbers,
+            })
+        } else {
+            Err(ByteFault::TooLarge)
+        }
     }
 }
 
-impl Iterator for Form {
+impl FormBytes<'_> {
+    ghost use Rattle.std.specs.Prelude.{◌≡◌, ◌+◌, ◌*◌, ◌≤◌, length};
+    ghost use Rattle.record.specs.Forms.{form_left, NumberTaken};
+
+    // Takes the number whose next group is to come: what is left of one, or else the first of the rest.
+    fn next_number(&mut self) -> Option<u64>
+        ensures { NumberTaken self.old result self.new }
+    {
+        if let Some(number) = self.number.take() {
+            return Some(number);
+        }
+        let (first, rest) = self.rest.split_first()?;
+        self.rest = rest;
+        Some(*first)
+    }
+
+    // How many bytes are still to come.
+    pub(crate) fn width(&self) -> usize
+        ensures value { result ≡ length (form_left self.now) }
+        ensures bound { result ≤ 9 + 9 * length self.now.rest.now }
+    {
+        let bytes = *self;
+        bytes.count()
+    }
+}
+
+impl Iterator for FormBytes<'_> {
     ghost use Rattle.std.specs.Iterator.{YieldsFirst, item_count};
     ghost use Rattle.record.specs.Forms.{form_left};
 
@@ -39,13 +83,12 @@ impl Iterator for Form {
 
     #[tactic(auto, using(crate::proofs::Forms::form_last, crate::proofs::Forms::form_more))]
     fn next(&mut self) -> Option<u8> {
+        let number = self.next_number()?;
         // `as`: a group fits a byte, which is proved, and `try_from` would ask for a case that never comes.
-        let rest = self.rest?;
-        if rest < GROUP {
-            self.rest = None;
-            return Some(rest as u8);
+        if number < GROUP {
+            return Some(number as u8);
         }
-        self.rest = Some(rest / GROUP);
-        Some(GOES_ON + (rest % GROUP) as u8)
+        self.number = Some(number / GROUP);
+        Some(GOES_ON + (number % GROUP) as u8)
     }
 }

@@ -4,8 +4,7 @@ ghost use Rattle.record.specs.Answers.{RestAnswer, OnlyRest};
 
 use crate::fault::ByteFault;
 
-// AFT1
-pub const HEADING: [u8; 4] = [0x41, 0x46, 0x54, 0x31];
+pub const HEADING: [u8; 4] = *b"AFT1";
 
 // The bytes after the heading at the front of `bytes`.
 pub fn read_heading(bytes: &[u8]) -> Result<&[u8], ByteFault>

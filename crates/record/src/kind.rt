@@ -18,6 +18,7 @@ impl TryFrom<u8> for Kind {
 
     ghost try_from_gives = { KindRead };
 
+    // The discriminants once more: no cast leads from a number to a variant.
     fn try_from(byte: u8) -> Result<Kind, ByteFault> {
         match byte {
             1 => Ok(Kind::Spawn),

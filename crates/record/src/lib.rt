@@ -7,7 +7,6 @@ mod form;
 mod heading;
 mod kind;
 mod number;
-mod numbers;
 mod reader;
 mod writer;
 

@@ -28,11 +28,10 @@ pub fn read_number(bytes: &[u8]) -> Result<(u64, &[u8]), ByteFault>
     for (i, byte) in front.iter().enumerate() {
         value += u64::from(byte % GOES_ON) * weight;
         if *byte < GOES_ON {
-            return if *byte == 0 && i > 0 {
-                Err(ByteFault::BadNumber)
-            } else {
-                Ok((value, &bytes[i + 1..]))
-            };
+            if *byte == 0 && i > 0 {
+                return Err(ByteFault::BadNumber);
+            }
+            return Ok((value, &bytes[i + 1..]));
         }
         weight *= GROUP;
     }

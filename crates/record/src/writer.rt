@@ -7,7 +7,7 @@ ghost use Rattle.record.specs.Writers.{WriteCall};
 ghost use Rattle.record.specs.Laws.{EventsApart};
 ghost use Rattle.record.specs.Examples.{EventExamples};
 
-mod forms;
+mod whole;
 
 use crate::fault::ByteRefusal;
 use crate::heading::HEADING;
@@ -52,7 +52,7 @@ impl<'a> Writer<'a> {
         self.write(&[], &[job])
     }
 
-    // Writes an event.
+    // Writes an event: each arm is a row of the format's table.
     #[tactic(auto, using(crate::proofs::OneEvent::events_apart, crate::proofs::ByExample::event_examples))]
     pub fn event(&mut self, event: Event<Cell>) -> Result<(), ByteRefusal>
         ensures written { WriteCall (numbers_of event) (event_form event) self.old result self.new }

@@ -1,4 +1,4 @@
-// Tests of the record bytes by example: numbers and their forms, whole files, their listings and their lines, and refused writes.
+// Tests of the record bytes by example: numbers and their forms, whole files, their listings and lines, and refused writes.
 #![tactic(auto)]
 
 #[cfg(test)]

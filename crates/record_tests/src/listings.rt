@@ -1,7 +1,7 @@
 // Listings and recordings as a program's own code has them, not as lines.
 use listing::{ListError, Recording, list};
 use model::Event;
-use record::{ByteFault, ByteRefusal};
+use record::ByteFault;
 use std::test::Fail;
 
 #[test]
@@ -12,11 +12,7 @@ fn listed(rt: HostRuntime) -> Result<(), Fail> {
         listing.events.as_slice(),
         [Event::End { task: 1 }, Event::Open { task: 0 }].as_slice()
     );
-    let refusal = ByteRefusal {
-        fault: ByteFault::UnknownKind,
-        place: 9,
-    };
-    assert_eq!(rt; listing.fault, Some(refusal));
+    assert_eq!(rt; listing.refusal, Some(ByteFault::UnknownKind.at(9)));
     assert_eq!(rt; listing.recording().events.len(), 2);
     Ok(())
 }
@@ -24,22 +20,12 @@ fn listed(rt: HostRuntime) -> Result<(), Fail> {
 #[test]
 fn not_listed(rt: HostRuntime) -> Result<(), Fail> {
     let alloc = rt.alloc();
-    match list(alloc, b"AFT1\x80") {
-        Ok(_) => return Err(Fail::new("listed, and should have been refused")),
-        Err(error) => {
-            assert_eq!(rt;
-                error,
-                ListError::Refused(ByteRefusal {
-                    fault: ByteFault::Short,
-                    place: 4
-                })
-            );
-            assert_eq!(rt;
-                format!(in alloc; "{error}")?.as_str(),
-                "refused 2 layer bytes byte 4"
-            );
-        }
-    }
+    let error = ListError::Refused(ByteFault::Short.at(4));
+    assert_eq!(rt; list(alloc, b"AFT1\x80").err(), Some(error));
+    assert_eq!(rt;
+        format!(in alloc; "{error}")?.as_str(),
+        "refused 2 layer bytes byte 4"
+    );
     Ok(())
 }
 

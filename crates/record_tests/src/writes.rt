@@ -2,7 +2,7 @@
 use model::{Cell, Event};
 use record::{ByteFault, ByteRefusal, Writer};
 
-// The largest number, in its own words here: a test's values are not taken from the code.
+// The largest number, in the test's own words: a project rule is that a test's values are not taken from the code.
 const LARGEST: u64 = 0x7fff_ffff_ffff_ffff;
 
 // An event of four bytes.
@@ -14,7 +14,7 @@ const WRITE: Event<Cell> = Event::Write {
     },
 };
 
-// The same, but for a number that is too large; written out, as a table's values are.
+// The same, but for a number that is too large. (A `const` can't take another with one field changed.)
 const HUGE: Event<Cell> = Event::Write {
     task: 0,
     cell: Cell {
@@ -23,9 +23,8 @@ const HUGE: Event<Cell> = Event::Write {
     },
 };
 
-// Made by hand, as the tables' other values are.
 fn refused(fault: ByteFault, place: usize) -> Result<usize, ByteRefusal> {
-    Err(ByteRefusal { fault, place })
+    Err(fault.at(place))
 }
 
 // The place after what `call` writes from `at` on, or its refusal.
@@ -92,5 +91,19 @@ fn headings_and_jobs(rt: HostRuntime) {
     assert_eq!(rt; buf, [9; 6]);
     assert_eq!(rt; write(&mut buf, 0, |writer| writer.heading()), Ok(4));
     assert_eq!(rt; write(&mut buf, 4, |writer| writer.job(300)), Ok(6));
+    assert_eq!(rt; &buf, b"AFT1\xac\x02");
+}
+
+// A refusal leaves the writer where it stood, and it goes on from there.
+#[test]
+fn goes_on(rt: HostRuntime) {
+    let mut buf = [9; 6];
+    let mut writer = Writer::new(&mut buf, 0);
+    assert_eq!(rt; writer.heading(), Ok(()));
+    assert_eq!(rt; writer.job(LARGEST + 1), Err(ByteFault::TooLarge.at(4)));
+    assert_eq!(rt; writer.place(), 4);
+    assert_eq!(rt; writer.job(300), Ok(()));
+    assert_eq!(rt; writer.job(0), Err(ByteFault::NoRoom.at(6)));
+    assert_eq!(rt; writer.place(), 6);
     assert_eq!(rt; &buf, b"AFT1\xac\x02");
 }

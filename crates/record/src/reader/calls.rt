@@ -1,5 +1,6 @@
 // What a reader reads: the heading, the job number, and one event after another.
-ghost use Rattle.std.specs.Prelude.{◌≤◌, length, IfOk};
+ghost use Rattle.std.specs.Prelude.{◌≤◌, length};
+ghost use Rattle.std.specs.Result.{ForOk};
 ghost use Rattle.record.specs.Readers.{left_of, Went, HeadingCall, JobCall, EventCall};
 
 use super::Reader;
@@ -10,9 +11,9 @@ use crate::number::read_number;
 use model::{Cell, Event};
 
 impl<'a> Reader<'a> {
-    // Goes on past what was read of the rest, or places the fault where the reader stands.
+    // Goes on behind what was read of the rest, or says where the fault stands.
     fn pass<T>(&mut self, read: Result<(T, &'a [u8]), ByteFault>) -> Result<T, ByteRefusal>
-        requires { IfOk read (λ p. length p.1.now ≤ length (left_of self.old)) }
+        requires { ForOk read (λ p. length p.1.now ≤ length (left_of self.old)) }
         ensures went { Went self.old read.entry result self.new }
     {
         let (value, rest) = read.map_err(|fault| fault.at(self.place))?;

@@ -1,4 +1,4 @@
-use Rattle.std.proofs.Common.{◌≡◌, ℕ, ◌≤◌, List, [], length, Some, None, Option, vec_items, arith, rules}
+use Rattle.std.proofs.Common.{◌≡◌, ℕ, ◌≤◌, List, [], length, Some, None, Option, arith, rules}
 use Rattle.model.specs.declared.Cell.{Cell}
 use Rattle.model.specs.declared.Event.{Event}
 use Rattle.record.specs.declared.fault.ByteRefusal.{ByteRefusal}
@@ -13,13 +13,11 @@ told_read bs job es f short listed lines e = record { long = λ l. absurd (omega
 
 pub returns-in-Ok : goal.returns-in-Ok
 returns-in-Ok c =
-    let listing = c.in-Ok.listing in
-    let told = told_read c.args.bytes.now (Some listing.job) (vec_items listing.events) listing.fault (omega arith) c.in-Ok.ensures.listed in
+    let told = told_read _ (Some c.in-Ok.listing.job) _ c.in-Ok.listing.refusal (omega arith) c.in-Ok.ensures.listed in
     search (rules, told)
 
 pub returns-in-Err-Refused : goal.returns-in-Err-Refused
 returns-in-Err-Refused c =
-    let refusal = c.in-Err-Refused.refusal in
     let listed = rw c.in-Err-Refused.field-0-is at c.in-Err-Refused.ensures.listed in
-    let told = told_read c.args.bytes.now None [] (Some refusal) (omega arith) listed in
+    let told = told_read c.args.bytes.now None [] (Some c.in-Err-Refused.refusal) (omega arith) listed in
     search (rules, told)

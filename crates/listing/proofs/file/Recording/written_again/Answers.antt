@@ -1,5 +1,5 @@
 -- Before the end of what was written stands the form; it is compared with the bytes.
-use Rattle.std.proofs.Common.{◌≡◌, take, sym, ap, ◌∙◌, arith}
+use Rattle.std.proofs.Common.{◌≡◌, take, sym, ◌∙◌, arith}
 use Rattle.std.proofs.lemmas.List.{take_at}
 use Rattle.std.proofs.lemmas.Slice.Eq.{slice_eq-Decides}
 use Rattle.std.proofs.lemmas.Bool.Decides.{Decides-eqb}
@@ -12,5 +12,5 @@ returns-in-Ok c =
     let written = c.in-Ok.ensures.written in
     let same = slice_eq-Decides Decides-eqb (take end c.deref.result.now) c.args.bytes.now c.eq.result c.eq.ensures in
     let whole : c.deref.result.now ≡ c.write.new.buf = c.deref.ensures.value ∙ take_at c.write.new.buf _ c.in_ok-buf.buf.len (omega arith) in
-    let form : take end c.deref.result.now ≡ file_form c.args.self.job c.args.self.events.now = ap (take end) (whole ∙ written.3) ∙ take_at (file_form c.args.self.job c.args.self.events.now) _ end (sym written.2) in
+    let form : take end c.deref.result.now ≡ file_form c.args.self.job c.args.self.events.now = rw (whole, written.3) (take_at (file_form c.args.self.job c.args.self.events.now) _ end (sym written.2)) in
     record { decided = (λ e. (written.0, sym (same.0 e) ∙ form), λ h. same.1 (form ∙ sym h.1)) }

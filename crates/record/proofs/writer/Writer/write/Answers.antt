@@ -1,12 +1,25 @@
--- The lead and the forms are laid one after the other, where there is room for both.
-use Rattle.std.proofs.Common.{◌≡◌, length, ap, rules, length-append, arith}
+-- The lead is laid, and then each byte is the first of those that were left.
+use Rattle.std.proofs.Common.{◌≡◌, [], ◌∷◌, ◌++◌, length, refl, ap, rules, length-append, arith}
 use Rattle.record.specs.Numbers.{numbers_form}
-use Rattle.record.proofs.Writing.{laid_both}
+use Rattle.record.specs.Forms.{form_left}
+use Rattle.record.proofs.Writing.{laid_but_all, laid_but_more, laid_but_none}
 use Rattle.record.proofs.writer.Writer.write.Goals as goal
+
+pub loop-byte-init : goal.loop-byte-init
+loop-byte-init c =
+    let lead = c.args.lead.now in
+    let forms = numbers_form c.args.numbers.now in
+    let same : form_left c.in_ok-form.form ≡ forms = search rules in
+    let start = laid_but_all c.args.self.now (lead ++ forms) (omega (arith, c.width.ensures.value, ap length same, length-append lead forms)) in
+    (tt, tt, rw (c.into_iter-byte-iterator.ensures.into_iter_gives, same) (laid_but_more lead forms refl start c.lay.ensures))
+
+pub loop-byte-preserved : goal.loop-byte-preserved
+loop-byte-preserved c = (tt, tt, laid_but_more (c.in-Some.byte ∷ []) _ c.in-Some.ensures.steps c.loop-byte.invariant.2 c.lay-in-loop-byte.ensures)
 
 pub returns : goal.returns
 returns c =
-    let width = c.width.ensures.value in
-    let same : c.in_ok-numbers.numbers.all.now ≡ c.args.numbers.now = search rules in
-    let all = laid_both (omega (arith, length-append c.args.lead.now (numbers_form c.in_ok-numbers.numbers.all.now))) c.lay_bytes.ensures c.lay_numbers.ensures in
-    (all.lent, (rw same at c.in_ok-numbers.numbers.in_range, omega (arith, ap length (ap numbers_form same), length-append c.args.lead.now (numbers_form c.args.numbers.now)), rw same at all.next, rw same at all.bytes))
+    let lead = c.args.lead.now in
+    let forms = numbers_form c.args.numbers.now in
+    let same : form_left c.in_ok-form.form ≡ forms = search rules in
+    let all = laid_but_none c.in-None.ensures.steps.0 c.loop-byte.invariant.2 in
+    (all.lent, (search rules, omega (arith, c.width.ensures.value, ap length same, length-append lead forms), all.next, all.bytes))
