@@ -1,4 +1,5 @@
-// Whole files: reading them, and writing them again.
+// Whole files: reading them, and writing them again. What allocates is passed the allocator beside the bytes, as in the kit's
+// library: a struct of the two would keep an allocator where bytes are meant.
 ghost use Rattle.std.specs.Prelude.{◌≡◌, ◌≤◌, ◌↔◌, length, IfOk, IsTrue};
 ghost use Rattle.record.specs.Events.{file_form};
 ghost use Rattle.record.specs.Readers.{left_of};
@@ -20,7 +21,8 @@ pub struct Listing {
     pub refusal: Option<ByteRefusal>,
 }
 
-// A job number and its events, which a file holds.
+// A job number and its events, which a file holds. It borrows the events: what is written again need not be a listing, and is
+// not copied.
 #[derive(Clone, Copy, PartialEq, Eq, Debug)]
 pub struct Recording<'a> {
     pub job: u64,

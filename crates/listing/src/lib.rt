@@ -1,5 +1,4 @@
-// A whole record file: listed line by line, and written again. What allocates is passed the allocator, beside the bytes of a
-// file where it needs those, as in the kit's library: a struct of the two would keep an allocator where bytes are meant.
+// A whole record file: listed line by line, and written again.
 #![tactic(auto)]
 
 mod error;

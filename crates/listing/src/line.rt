@@ -30,11 +30,10 @@ impl fmt::Display for Again {
     ghost output = { λ a. Some (again_text a) };
 
     fn fmt<W: fmt::Write>(&self, f: &mut fmt::Formatter<W>) -> fmt::Result {
-        let text = match self {
+        f.write_str(match self {
             Again::Equal => "equal",
             Again::Different => "different",
-        };
-        f.write_str(text)
+        })
     }
 }
 

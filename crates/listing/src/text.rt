@@ -1,4 +1,4 @@
-// The lines of a file.
+// The lines of a file. The allocator is passed beside the bytes, for the reason that `file` gives.
 ghost use Rattle.std.specs.Prelude.{◌≡◌, [], ◌∷◌, ◌++◌, length, IfOk, Some, OnOk};
 ghost use Rattle.listing.specs.declared.line.Line.TheVariants.{Refused};
 ghost use Rattle.listing.specs.Files.{Listed};

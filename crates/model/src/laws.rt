@@ -1,4 +1,5 @@
-// The laws of the rules. Each function is a theorem that its contract names: it has nothing to compute.
+// The laws of the rules. Each function is a theorem that its contract names: it has nothing to compute. Each clause says for
+// itself what it ranges over, so that it can be read alone.
 ghost use Rattle.std.specs.Prelude.{ℕ, List};
 ghost use Rattle.model.specs.declared.Call.{Call};
 ghost use Rattle.model.specs.Past.{Past};

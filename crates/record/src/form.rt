@@ -9,8 +9,8 @@ use crate::number::{GOES_ON, GROUP};
 use model::LARGEST;
 
 // What is still to come: the groups of `number`, the lowest first, and then the forms of `rest`. A `flat_map` over the numbers
-// would be made twice, to count and to write, and its closure would ask each time for numbers in range.
-// `Copy`: beside ghost fields the kit derives no `Clone` alone. `by` shows that a fact has one proof at most, as it must here.
+// needs an iterator of one number's bytes all the same, and a type for numbers in range: two types, which stood here, and longer.
+// `Copy`: beside ghost fields the kit derives no `Clone` alone. `by` shows of a ghost field's fact that it has one proof at most.
 #[derive(Clone, Copy)]
 pub(crate) struct FormBytes<'a> {
     number: Option<u64>,
@@ -19,7 +19,7 @@ pub(crate) struct FormBytes<'a> {
     ghost rest_fits: { InRange rest.now } by { Prim.hlevel props },
 }
 
-// Whether each number has a form.
+// Whether each number has a form. (That a run takes no larger number either is a rule of its own, told in `model`.)
 fn in_range(numbers: &[u64]) -> bool
     ensures { IsTrue result ↔ InRange numbers.now }
 {

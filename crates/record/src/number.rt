@@ -12,7 +12,7 @@ const LONGEST: usize = 9;
 // A byte from here on has its high bit set, and another follows it.
 pub(crate) const GOES_ON: u8 = 128;
 
-// How many values a group of seven bits has.
+// How many values a group of seven bits has: what a weight grows by, and no bit of a byte as `GOES_ON` is.
 pub(crate) const GROUP: u64 = 128;
 
 // The number at the front of `bytes`, and the bytes after it.

@@ -5,7 +5,7 @@ use std::fmt::Write;
 use std::process::Abort;
 use std::test::Fail;
 
-// The lines of a file, each with its line feed.
+// The lines of a file, each with its line feed. It takes what `lines` takes.
 fn text(alloc: Global, bytes: &[u8]) -> Result<String, Fail> {
     let mut out = String::new(alloc);
     for line in lines(alloc, bytes)? {

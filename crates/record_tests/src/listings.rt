@@ -1,7 +1,7 @@
 // Listings and recordings as a program's own code has them, not as lines.
 use listing::{ListError, Recording, list};
 use model::Event;
-use record::ByteFault;
+use record::{ByteFault, ByteRefusal};
 use std::test::Fail;
 
 #[test]
@@ -12,7 +12,11 @@ fn listed(rt: HostRuntime) -> Result<(), Fail> {
         listing.events.as_slice(),
         [Event::End { task: 1 }, Event::Open { task: 0 }].as_slice()
     );
-    assert_eq!(rt; listing.refusal, Some(ByteFault::UnknownKind.at(9)));
+    let refusal = ByteRefusal {
+        fault: ByteFault::UnknownKind,
+        place: 9,
+    };
+    assert_eq!(rt; listing.refusal, Some(refusal));
     assert_eq!(rt; listing.recording().events.len(), 2);
     Ok(())
 }
@@ -20,7 +24,10 @@ fn listed(rt: HostRuntime) -> Result<(), Fail> {
 #[test]
 fn not_listed(rt: HostRuntime) -> Result<(), Fail> {
     let alloc = rt.alloc();
-    let error = ListError::Refused(ByteFault::Short.at(4));
+    let error = ListError::Refused(ByteRefusal {
+        fault: ByteFault::Short,
+        place: 4,
+    });
     assert_eq!(rt; list(alloc, b"AFT1\x80").err(), Some(error));
     assert_eq!(rt;
         format!(in alloc; "{error}")?.as_str(),

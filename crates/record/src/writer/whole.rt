@@ -39,6 +39,7 @@ impl Writer<'_> {
             return Err(ByteFault::NoRoom.at(self.place));
         }
         self.lay(lead);
+        // Byte by byte: of slots behind a `zip` with the buffer the kit knows no value once they are written.
         for byte in form {
             self.lay(&[byte]);
         }
