@@ -1,9 +1,9 @@
 -- A writer that lays bytes one part after another: what is left to lay shrinks to nothing.
-use Rattle.std.proofs.Common.{◌≡◌, ℕ, ◌+◌, ◌≤◌, List, [], ◌++◌, length, refl, ap, ◌∙◌, arith, length-append}
+use Rattle.std.proofs.Common.{◌≡◌, ℕ, ◌+◌, ◌≤◌, List, ◌++◌, length, refl, ap, ◌∙◌, arith, length-append}
 use Rattle.record.specs.declared.writer.Writer.{Writer}
 use Rattle.record.specs.Writes.{laid}
 use Rattle.record.specs.Writers.{HasRoom, Laid}
-use Rattle.record.proofs.Laying.{laid_none, laid_append, laid_length}
+use Rattle.record.proofs.Laying.{laid_append, laid_length}
 
 -- v is w after it laid `all` but for the `rest`, which is left to lay
 pub record LaidBut (rest all : List ℕ) (w v : Writer) : Type 0 where
@@ -23,13 +23,6 @@ laid_but_more {left} {all} {w} {v} {u} bs rest e s h =
       end = omega (arith, s.end, h.next);
       bytes = rw (h.bytes, h.next, laid_append v.buf.now v.place bs rest fits, ← e) s.bytes;
     }
-
-pub laid_but_none : {left all : List ℕ} {w v : Writer} → left ≡ [] → LaidBut left all w v → Laid all w v
-laid_but_none {left} {all} {w} {v} e s = record {
-  lent = s.lent;
-  bytes = cc (laid_none v.buf.now v.place, s.bytes);
-  next = omega (arith, ap length e, s.end);
-}
 
 -- at first all is left
 pub laid_but_all : (w : Writer) (all : List ℕ) → HasRoom w (length all) → LaidBut all all w w

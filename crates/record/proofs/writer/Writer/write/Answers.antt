@@ -2,7 +2,7 @@
 use Rattle.std.proofs.Common.{◌≡◌, [], ◌∷◌, ◌++◌, length, refl, ap, rules, length-append, arith}
 use Rattle.record.specs.Numbers.{numbers_form}
 use Rattle.record.specs.Forms.{form_left}
-use Rattle.record.proofs.Writing.{laid_but_all, laid_but_more, laid_but_none}
+use Rattle.record.proofs.Writing.{laid_but_all, laid_but_more}
 use Rattle.record.proofs.writer.Writer.write.Goals as goal
 
 pub loop-byte-init : goal.loop-byte-init
@@ -15,11 +15,3 @@ loop-byte-init c =
 
 pub loop-byte-preserved : goal.loop-byte-preserved
 loop-byte-preserved c = (tt, tt, laid_but_more (c.in-Some.byte ∷ []) _ c.in-Some.ensures.steps c.loop-byte.invariant.2 c.lay-in-loop-byte.ensures)
-
-pub returns : goal.returns
-returns c =
-    let lead = c.args.lead.now in
-    let forms = numbers_form c.args.numbers.now in
-    let same : form_left c.in_ok-form.form ≡ forms = search rules in
-    let all = laid_but_none c.in-None.ensures.steps.0 c.loop-byte.invariant.2 in
-    (all.lent, (search rules, omega (arith, c.width.ensures.value, ap length same, length-append lead forms), all.next, all.bytes))
