@@ -1,7 +1,7 @@
 -- Accesses of cells, and the three marks of a cell: its last write, its left read and its right read.
 use Rattle.std.specs.Prelude.{◌≡◌, ℕ, ◌+◌, Bool, true, false, cond, not, ◌||◌, T, List, [], ◌∷◌, length, Some, None, Option}
 use Rattle.model.specs.declared.Event.{Event}
-use Rattle.model.specs.declared.Event.TheVariants.{Spawn, End, Open, Close, Read, Write}
+use Rattle.model.specs.declared.Event.TheVariants.{Read, Write}
 use Rattle.model.specs.Lists.{any, keep, mem, first_of, last_of, some_or}
 use Rattle.model.specs.Past.{Past}
 use Rattle.model.specs.Before.{before, serial}
@@ -15,40 +15,26 @@ pub record CellKind (C : Type 0) : Type 0 where
 
 -- the cell that an event accesses
 abbrev pub cell_of : {C : Type 0} → Event C → Option C
-cell_of (Spawn t u) = None
-cell_of (End t) = None
-cell_of (Open t) = None
-cell_of (Close t) = None
 cell_of (Read t c) = Some c
 cell_of (Write t c) = Some c
+cell_of e = None
 
 -- whether an event is a read or a write
 abbrev pub is_access : {C : Type 0} → Event C → Bool
-is_access (Spawn t u) = false
-is_access (End t) = false
-is_access (Open t) = false
-is_access (Close t) = false
 is_access (Read t c) = true
 is_access (Write t c) = true
+is_access e = false
 
 module _ {C : Type 0} (k : CellKind C) where
   -- whether an event reads the cell c
   abbrev pub reads : C → Event C → Bool
-  reads c (Spawn t u) = false
-  reads c (End t) = false
-  reads c (Open t) = false
-  reads c (Close t) = false
   reads c (Read t d) = k.same c d
-  reads c (Write t d) = false
+  reads c e = false
 
   -- whether it writes the cell c
   abbrev pub writes : C → Event C → Bool
-  writes c (Spawn t u) = false
-  writes c (End t) = false
-  writes c (Open t) = false
-  writes c (Close t) = false
-  writes c (Read t d) = false
   writes c (Write t d) = k.same c d
+  writes c e = false
 
   -- whether it does either
   abbrev pub accesses : C → Event C → Bool
@@ -56,12 +42,9 @@ module _ {C : Type 0} (k : CellKind C) where
 
   -- two accesses of one cell, at least one a write
   abbrev pub conflicts : Event C → Event C → Bool
-  conflicts d (Spawn t u) = false
-  conflicts d (End t) = false
-  conflicts d (Open t) = false
-  conflicts d (Close t) = false
   conflicts d (Read t c) = writes c d
   conflicts d (Write t c) = accesses c d
+  conflicts d e = false
 
   -- whether a cell was touched, and how many were
   abbrev pub cell_held : Past C → C → Bool

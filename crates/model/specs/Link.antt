@@ -1,7 +1,7 @@
 -- How a past moves an order keeper: the order that a keeper means after the events of a past, and what it says of these events.
 use Rattle.std.specs.Prelude.{◌≡◌, ℕ, ◌+◌, ◌<◌, Bool, false, cond, T, ◌⊎◌, ◌↔◌, List, [], ◌∷◌, length, Some, Option, ◌==◌}
 use Rattle.model.specs.declared.Event.{Event}
-use Rattle.model.specs.declared.Event.TheVariants.{Spawn, End, Open, Close, Read, Write}
+use Rattle.model.specs.declared.Event.TheVariants.{Spawn, End, Open, Close}
 use Rattle.model.specs.declared.Race.{Race}
 use Rattle.model.specs.Lists.{mem, some_or}
 use Rattle.model.specs.Past.{Past, at, behind, actor, makes, child}
@@ -28,8 +28,7 @@ moved h m (Spawn t u) = spawned m (number h t)
 moved h m (End t) = done m (number h t)
 moved h m (Open t) = opened m (number h t)
 moved h m (Close t) = closed m (number h t)
-moved h m (Read t c) = m
-moved h m (Write t c) = m
+moved h m e = m
 
 -- the order after a past
 abbrev pub order_of : {C : Type 0} → ℕ → Past C → Order

@@ -70,33 +70,26 @@ abbrev pub spawned : Order → ℕ → Order
 spawned m t =
     let s : ℕ = (m.task t).current in
     let f : ℕ = head_or (m.task t).finishes 0 in
-    record {
-      limit = m.limit;
+    record m {
       steps = m.steps + 2;
       before = λ a b. cond (b == m.steps || b == m.steps + 1) (at_or_before m s a) (m.before a b);
       earlier = earlier_with m s 2;
       tasks = m.tasks + 1;
       task = retask (retask m.task t (record { running = true; current = m.steps + 1; finishes = (m.task t).finishes }))
           m.tasks (record { running = true; current = m.steps; finishes = f ∷ [] });
-      finishes = m.finishes;
       lives = λ g u. (g == f && u == m.tasks) || m.lives g u;
-      last = m.last;
     }
 
 -- an open makes one step, with the current one and all before that before it
 abbrev pub opened : Order → ℕ → Order
 opened m t =
     let s : ℕ = (m.task t).current in
-    record {
-      limit = m.limit;
+    record m {
       steps = m.steps + 1;
       before = λ a b. cond (b == m.steps) (at_or_before m s a) (m.before a b);
       earlier = earlier_with m s 1;
-      tasks = m.tasks;
       task = retask m.task t (record { running = true; current = m.steps; finishes = m.finishes ∷ (m.task t).finishes });
       finishes = m.finishes + 1;
-      lives = m.lives;
-      last = m.last;
     }
 
 -- a close makes one step; before it are the current one, the last steps of the tasks that ended in the finish, and all before these
@@ -104,17 +97,12 @@ abbrev pub closed : Order → ℕ → Order
 closed m t =
     let s : ℕ = (m.task t).current in
     let f : ℕ = head_or (m.task t).finishes 0 in
-    record {
-      limit = m.limit;
+    record m {
       steps = m.steps + 1;
       before = λ a b. cond (b == m.steps)
           (at_or_before m s a || any (λ l. m.last f l && at_or_before m l a) (below m.steps)) (m.before a b);
       earlier = earlier_with m s 1;
-      tasks = m.tasks;
       task = retask m.task t (record { running = true; current = m.steps; finishes = rest (m.task t).finishes });
-      finishes = m.finishes;
-      lives = m.lives;
-      last = m.last;
     }
 
 -- an end makes no step; the task leaves the finish it lives in, and its current step joins the last steps there
@@ -122,14 +110,8 @@ abbrev pub done : Order → ℕ → Order
 done m t =
     let s : ℕ = (m.task t).current in
     let f : ℕ = head_or (m.task t).finishes 0 in
-    record {
-      limit = m.limit;
-      steps = m.steps;
-      before = m.before;
-      earlier = m.earlier;
-      tasks = m.tasks;
+    record m {
       task = retask m.task t (record { running = false; current = s; finishes = [] });
-      finishes = m.finishes;
       lives = λ g u. not (u == t) && m.lives g u;
       last = λ g l. (g == f && l == s) || m.last g l;
     }

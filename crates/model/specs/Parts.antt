@@ -32,11 +32,8 @@ no_room t key = some_or (λ v. false) (nat_le t.limit t.count) (t.find key)
 
 -- a table with one more key, or one key's value changed
 abbrev pub with_key : {K V : Type 0} → (K → K → Bool) → Keyed K V → K → V → Keyed K V
-with_key same t key v = record {
-  limit = t.limit;
-  count = t.count + some_or (λ x. 0) 1 (t.find key);
-  find = λ j. cond (same key j) (Some v) (t.find j);
-}
+with_key same t key v =
+    record t { count = t.count + some_or (λ x. 0) 1 (t.find key); find = λ j. cond (same key j) (Some v) (t.find j) }
 
 -- the order of its steps, the histories of its cells, the numbers of its spawned tasks, and how many events it has taken
 pub record Parts (C : Type 0) : Type 0 where
@@ -116,22 +113,15 @@ new_right m s n (Some w) = cond (in_order m s w || m.earlier w.step s) (record {
 
 -- a history after a read, on the step s at the place n
 abbrev pub after_read : Order → ℕ → ℕ → History → History
-after_read m s n x = record { write = x.write; left = Some (new_left m s n x.left); right = Some (new_right m s n x.right) }
+after_read m s n x = record x { left = Some (new_left m s n x.left); right = Some (new_right m s n x.right) }
 
 -- and after a write: no read is since it
 abbrev pub after_write : ℕ → ℕ → History
-after_write s n = record { write = Some (record { step = s; place = n }); left = None; right = None }
+after_write s n = record blank { write = Some (record { step = s; place = n }) }
 
 -- one more event is counted, and nothing else is changed: this is what a racing access does
 abbrev pub counted : {C : Type 0} → Parts C → Parts C
-counted p = record { order = p.order; cells = p.cells; names = p.names; count = p.count + 1 }
-
--- the same with another order, and with another table of cells
-abbrev pub with_order : {C : Type 0} → Parts C → Order → Parts C
-with_order p m = record { order = m; cells = p.cells; names = p.names; count = p.count }
-
-abbrev pub with_cells : {C : Type 0} → Parts C → Keyed C History → Parts C
-with_cells p t = record { order = p.order; cells = t; names = p.names; count = p.count }
+counted p = record p { count = p.count + 1 }
 
 -- the parts of a run that was just opened
 abbrev pub emptied_parts : {C : Type 0} → Limits → Parts C
@@ -144,12 +134,9 @@ module _ {C : Type 0} (k : CellKind C) where
 
   -- the history of the cell c after the event e, by a task on the step s, at the place n
   abbrev pub history_with : Order → ℕ → ℕ → Event C → C → History → History
-  history_with m s n (Spawn t u) c x = x
-  history_with m s n (End t) c x = x
-  history_with m s n (Open t) c x = x
-  history_with m s n (Close t) c x = x
   history_with m s n (Read t d) c x = cond (k.same c d) (after_read m s n x) x
   history_with m s n (Write t d) c x = cond (k.same c d) (after_write s n) x
+  history_with m s n e c x = x
 
   -- what a past leaves of itself
   abbrev pub parts_of : Limits → Past C → Parts C
@@ -168,20 +155,17 @@ module _ {C : Type 0} (k : CellKind C) where
 
   -- the parts after a taken event of the task with number n
   abbrev pub moved_parts : Parts C → ℕ → Event C → Parts C
-  moved_parts p n (Spawn t u) = record {
-    order = spawned p.order n;
-    cells = p.cells;
-    names = with_key nat_eq p.names u p.order.tasks;
-    count = p.count + 1;
-  }
-  moved_parts p n (End t) = with_order (counted p) (done p.order n)
-  moved_parts p n (Open t) = with_order (counted p) (opened p.order n)
-  moved_parts p n (Close t) = with_order (counted p) (closed p.order n)
+  moved_parts p n (Spawn t u) =
+      record (counted p) { order = spawned p.order n; names = with_key nat_eq p.names u p.order.tasks }
+  moved_parts p n (End t) = record (counted p) { order = done p.order n }
+  moved_parts p n (Open t) = record (counted p) { order = opened p.order n }
+  moved_parts p n (Close t) = record (counted p) { order = closed p.order n }
   moved_parts p n (Read t c) =
-      with_cells (counted p)
-      (with_key k.same p.cells c (after_read p.order (p.order.task n).current p.count (history_in p.cells c)))
+      record (counted p) {
+        cells = with_key k.same p.cells c (after_read p.order (p.order.task n).current p.count (history_in p.cells c));
+      }
   moved_parts p n (Write t c) =
-      with_cells (counted p) (with_key k.same p.cells c (after_write (p.order.task n).current p.count))
+      record (counted p) { cells = with_key k.same p.cells c (after_write (p.order.task n).current p.count) }
 
   -- the parts after a taken event, by the number that its task has in them
   abbrev pub stepped : Parts C → Event C → Parts C

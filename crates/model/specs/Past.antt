@@ -32,11 +32,7 @@ actor (Write t c) = t
 -- the task that an event makes
 abbrev pub child : {C : Type 0} → Event C → Option ℕ
 child (Spawn t u) = Some u
-child (End t) = None
-child (Open t) = None
-child (Close t) = None
-child (Read t c) = None
-child (Write t c) = None
+child e = None
 
 -- whether an event makes the task u
 abbrev pub makes : {C : Type 0} → ℕ → Event C → Bool
@@ -44,12 +40,8 @@ makes u e = some_or (nat_eq u) false (child e)
 
 -- whether an event ends the task u
 abbrev pub ends : {C : Type 0} → ℕ → Event C → Bool
-ends u (Spawn t v) = false
 ends u (End t) = u == t
-ends u (Open t) = false
-ends u (Close t) = false
-ends u (Read t c) = false
-ends u (Write t c) = false
+ends u e = false
 
 -- whether the task u was made, and whether it has ended
 abbrev pub made : {C : Type 0} → Past C → ℕ → Bool
@@ -71,18 +63,13 @@ pub data Finish : Type 0 where
 -- a test for the same finish
 abbrev pub same_finish : Finish → Finish → Bool
 same_finish outer outer = true
-same_finish outer (opened_by t n) = false
-same_finish (opened_by t n) outer = false
 same_finish (opened_by t n) (opened_by u m) = t == u && n == m
+same_finish f g = false
 
 -- whether an event opens a finish
 abbrev pub is_open : {C : Type 0} → Event C → Bool
-is_open (Spawn t u) = false
-is_open (End t) = false
 is_open (Open t) = true
-is_open (Close t) = false
-is_open (Read t c) = false
-is_open (Write t c) = false
+is_open e = false
 
 -- how many finishes a task has opened
 abbrev pub opens : {C : Type 0} → Past C → ℕ → ℕ
@@ -91,12 +78,9 @@ opens (e ∷ h) t = cond (is_open e && t == actor e) (suc (opens h t)) (opens h 
 
 -- what an event makes of the finishes of its own that t has open, where t has opened n so far
 abbrev pub own_after : {C : Type 0} → Event C → ℕ → ℕ → List ℕ → List ℕ
-own_after (Spawn a u) t n own = own
-own_after (End a) t n own = own
 own_after (Open a) t n own = cond (t == a) (n ∷ own) own
 own_after (Close a) t n own = cond (t == a) (rest own) own
-own_after (Read a c) t n own = own
-own_after (Write a c) t n own = own
+own_after e t n own = own
 
 -- the finishes of its own that a task has open, the innermost first
 abbrev pub own : {C : Type 0} → Past C → ℕ → List ℕ
@@ -123,9 +107,5 @@ lived_in h f = any (λ u. not (ended h u) && same_finish (home h u) f) (spawned_
 
 -- the finish that the event e closes, on the past h
 abbrev pub closes : {C : Type 0} → Past C → Event C → Option Finish
-closes h (Spawn t u) = None
-closes h (End t) = None
-closes h (Open t) = None
 closes h (Close t) = Some (innermost h t)
-closes h (Read t c) = None
-closes h (Write t c) = None
+closes h e = None

@@ -29,11 +29,9 @@ within_max n = nat_lt n (2 ^ 63)
 -- how many steps an event makes, and how many a past holds
 abbrev pub steps_of : {C : Type 0} → Event C → ℕ
 steps_of (Spawn t u) = 2
-steps_of (End t) = 0
 steps_of (Open t) = 1
 steps_of (Close t) = 1
-steps_of (Read t c) = 0
-steps_of (Write t c) = 0
+steps_of e = 0
 
 abbrev pub steps_held : {C : Type 0} → Past C → ℕ
 steps_held [] = 1
@@ -53,14 +51,11 @@ refusal (p ∷ ps) a = cond p.0 (refused p.1) (refusal ps a)
 module _ {C : Type 0} (k : CellKind C) where
   -- the race that the next event makes: with the last write, else with the left read, else with the right read
   abbrev pub race_of : Past C → Event C → Option (Race C)
-  race_of h (Spawn t u) = None
-  race_of h (End t) = None
-  race_of h (Open t) = None
-  race_of h (Close t) = None
   race_of h (Read t c) = race_with WriteRead h (Read t c) c (last_write k h c) None
   race_of h (Write t c) =
       race_with WriteWrite h (Write t c) c (last_write k h c)
       (race_with ReadWrite h (Write t c) c (left_read k h c) (race_with ReadWrite h (Write t c) c (right_read k h c) None))
+  race_of h e = None
 
   -- every number in an event is in range
   abbrev pub numbers_fit : Event C → Bool

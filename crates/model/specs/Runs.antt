@@ -52,16 +52,12 @@ reply_by says own n Feeding (Feed e) = answer_reply n (says e)
 reply_by says own n Feeding (Seal j) = seal_reply own n None j
 reply_by says own n (Raced r) (Feed e) = stopped r
 reply_by says own n (Raced r) (Seal j) = seal_reply own n (Some r) j
-reply_by says own n (Sealed r) (Feed e) = turned_away 11 n
-reply_by says own n (Sealed r) (Seal j) = turned_away 11 n
+reply_by says own n (Sealed r) c = turned_away 11 n
 
 -- the token that a call hands back: that of a seal which is turned away
 abbrev pub handed_back : {C : Type 0} → Call C → Reply C → Option ℕ
-handed_back (Feed e) r = None
-handed_back (Seal j) (took r) = None
-handed_back (Seal j) (stopped r) = None
 handed_back (Seal j) (turned_away n p) = Some j
-handed_back (Seal j) (gave_verdict i r n) = None
+handed_back c r = None
 
 -- the stage after a taken event
 abbrev pub stage_with : {C : Type 0} → Option (Race C) → Stage C
@@ -71,13 +67,8 @@ stage_with (Some r) = Raced r
 -- where a run stands after a call, by what the call was answered
 abbrev pub moved_by : {C : Type 0} → Standing C → Call C → Reply C → Standing C
 moved_by s (Feed e) (took r) = record { past = e ∷ s.past; stage = stage_with r }
-moved_by s (Feed e) (stopped r) = s
-moved_by s (Feed e) (turned_away n p) = s
-moved_by s (Feed e) (gave_verdict j r n) = s
-moved_by s (Seal j) (took r) = s
-moved_by s (Seal j) (stopped r) = s
-moved_by s (Seal j) (turned_away n p) = s
-moved_by s (Seal j) (gave_verdict i r n) = record { past = s.past; stage = Sealed r }
+moved_by s (Seal j) (gave_verdict i r n) = record s { stage = Sealed r }
+moved_by s c r = s
 
 -- the events of a past, fed one after the other, and the answers if each is taken with no race
 abbrev pub all_fed : {C : Type 0} → Past C → List (Call C)

@@ -21,7 +21,7 @@ planted = record { step = λ x. 0 ∷ []; finish = λ f. [] }
 abbrev pub spawn_tree : Order → ℕ → Tree → Tree
 spawn_tree m t w =
     let s : Label = w.step (m.task t).current in
-    record { step = put (put w.step m.steps (child_of s)) (m.steps + 1) (next_of s); finish = w.finish }
+    record w { step = put (put w.step m.steps (child_of s)) (m.steps + 1) (next_of s) }
 
 -- an open puts a finish's node to the right of the current step, and a step under it
 abbrev pub open_tree : Order → ℕ → Tree → Tree
@@ -31,7 +31,7 @@ open_tree m t w =
 
 -- a close puts a step to the right of the finish's node
 abbrev pub close_tree : Order → ℕ → Tree → Tree
-close_tree m t w = record { step = put w.step m.steps (next_of (w.finish (head_or (m.task t).finishes 0))); finish = w.finish }
+close_tree m t w = record w { step = put w.step m.steps (next_of (w.finish (head_or (m.task t).finishes 0))) }
 
 -- the trees that the calls grow, each beside the order that they reach
 pub data Grown (limit : ℕ) : Order → Tree → Type 0 where
