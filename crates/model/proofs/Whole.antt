@@ -5,10 +5,10 @@ use Rattle.model.specs.declared.Race.{Race}
 use Rattle.model.specs.declared.Call.{Call}
 use Rattle.model.specs.Past.{Past, at}
 use Rattle.model.specs.Before.{before, through}
-use Rattle.model.specs.Cells.{CellKind, conflicts}
+use Rattle.model.specs.Accesses.{CellKind, conflicts}
 use Rattle.model.specs.Rules.{Limits}
 use Rattle.model.specs.Legal.{arranged}
-use Rattle.model.specs.Laws.{StrictOrder, Clean, Verdict, CleanSettled, RacesReal, AnyOrder, ToldSame, FirstNamed}
+use Rattle.model.specs.Laws.{StrictOrder, Clean, Outcome, CleanSettled, RacesReal, AnyOrder, ToldSame, FirstNamed}
 use Rattle.model.specs.Runs.{Opening, after_calls, past_of, race_named, Upheld}
 use Rattle.model.specs.Link.{StepsTell}
 use Rattle.model.proofs.Trees.Reached.{reached_laws}
@@ -16,17 +16,17 @@ use Rattle.model.proofs.Shelf.Befores.{before_test}
 use Rattle.model.proofs.Orderings.Legals.{recorded_legal}
 use Rattle.model.proofs.Orderings.Races as races
 use Rattle.model.proofs.Orderings.Settles as settles
-use Rattle.model.proofs.Reorderings.Parts.{part_of_legal}
+use Rattle.model.proofs.Reorderings.Sublists.{part_of_legal}
 use Rattle.model.proofs.Reorderings.Arranged.{length_arranged}
 use Rattle.model.proofs.Reorderings.AnyOrder as reorderings
-use Rattle.model.proofs.Readers.Sound.{Sound, clean_sound, taken_good}
-use Rattle.model.proofs.Readers.Marks as readers
-use Rattle.model.proofs.Readers.Linked.{linked}
+use Rattle.model.proofs.Linking.Sound.{Sound, clean_sound, taken_good}
+use Rattle.model.proofs.Linking.Marks as readers
+use Rattle.model.proofs.Linking.Linked.{linked}
 use Rattle.model.proofs.Telling.Strict.{before_irrefl, before_asym}
 use Rattle.model.proofs.Telling.Same.{told_before, before_told}
 use Rattle.model.proofs.Verdicts.Standings.{lawful}
 use Rattle.model.proofs.Verdicts.Fed.{clean_fed}
-use Rattle.model.proofs.Verdicts.Replied.{unchanged, after_race, sealed_tells, token_spent}
+use Rattle.model.proofs.Verdicts.Replied.{event_answered, seal_answered, unchanged, after_race, sealed_tells}
 use Rattle.model.proofs.Verdicts.FirstConflict as firsts
 
 pub strict_order : {C : Type 0} (h : Past C) → StrictOrder h
@@ -62,7 +62,7 @@ module _ {C : Type 0} (k : CellKind C) where
   any_order l h c o legal =
       (length_arranged h o (part_of_legal h o legal) ∙ legal.whole, reorderings.clean_any_order k clean_ordered before_test l h c o legal)
 
-  verdict_sound : (l : Limits) (h : Past C) (m : Option (Race C)) → Verdict k l h m → Sound k h
+  verdict_sound : (l : Limits) (h : Past C) (m : Option (Race C)) → Outcome k l h m → Sound k h
   verdict_sound l h None q = clean_sound k l h q
   verdict_sound l [] (Some r) q = absurd q
   verdict_sound l (e ∷ h) (Some r) q = (taken_good k l h e (Some r) q.0, clean_sound k l h q.1)
@@ -83,13 +83,14 @@ module _ {C : Type 0} (k : CellKind C) where
       record {
         lawful = w;
         clean_settled = clean_settled o.limits h (race_named k o cs) w;
-        race_real = λ r e. races_real o.limits h r (subst (Verdict k o.limits h) e w);
+        race_real = λ r e. races_real o.limits h r (subst (Outcome k o.limits h) e w);
         any_order = λ e p legal.
-            let a = any_order o.limits h (subst (Verdict k o.limits h) e w) p legal in
+            let a = any_order o.limits h (subst (Outcome k o.limits h) e w) p legal in
             let f = clean_fed k o (arranged h p) a.1 in (a.0, f.0, f.1);
         first_named = first_named o.limits h (race_named k o cs) w;
+        event_answer = event_answered k o (after_calls k o cs);
+        seal_answer = seal_answered k o (after_calls k o cs);
         unchanged = unchanged k o (after_calls k o cs);
         after_race = after_race k o (after_calls k o cs);
         sealed_tells = sealed_tells k o (after_calls k o cs);
-        token_spent = token_spent k o (after_calls k o cs);
       }

@@ -4,21 +4,21 @@ use Rattle.model.specs.declared.Event.{Event}
 use Rattle.model.specs.Lists.{any, flat, below, some_or}
 use Rattle.model.specs.Past.{Past, at, behind, actor, child, makes, ends, home, same_finish, closes}
 
--- whether d ends a task that lives in the finish that e closes, on the past h
-abbrev pub awaits : {C : Type 0} → Past C → Event C → Event C → Bool
-awaits h d e = some_or (λ f. ends (actor d) d && same_finish (home h (actor d)) f) false (closes h e)
+-- whether e, on the past h, closes a finish that waits for d: the end of a task that lives in that finish
+abbrev pub awaited : {C : Type 0} → Past C → Event C → Event C → Bool
+awaited h d e = some_or (λ f. ends (actor d) d && same_finish (home h (actor d)) f) false (closes h e)
 
--- the three rules: the event d of the past h is directly before e, the next one,
--- if both are of one task, if d spawns the task of e, or if e closes the finish that the task that d ends lives in
+-- the three rules: an event d of the past h is directly before e, the event after h,
+-- if both are of one task, if d makes the task of e, or if e closes a finish that waits for d
 abbrev pub leads : {C : Type 0} → Past C → Event C → Event C → Bool
-leads h d e = actor d == actor e || (makes (actor e) d || awaits h d e)
+leads h d e = actor d == actor e || (makes (actor e) d || awaited h d e)
 
 -- happens before: the smallest transitive relation with the three rules
 pub data HappensBefore {C : Type 0} (h : Past C) : ℕ → ℕ → Type 0 where
   direct : (i j : ℕ) (d e : Event C) → i < j → at h i ≡ Some d → at h j ≡ Some e → T (leads (behind h j) d e) → HappensBefore h i j
   through : (i j k : ℕ) → HappensBefore h i j → HappensBefore h j k → HappensBefore h i k
 
--- the same, as a test
+-- the same, as a test: i is before the latest event if it leads to it, or is before an event that does
 abbrev pub before : {C : Type 0} → Past C → ℕ → ℕ → Bool
 before [] i j = false
 before (e ∷ h) i j =

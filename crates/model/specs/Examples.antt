@@ -10,6 +10,8 @@ use Rattle.model.specs.declared.Call.{Call}
 use Rattle.model.specs.declared.Call.TheVariants.{Feed, Seal}
 use Rattle.model.specs.Rules.{Limits}
 use Rattle.model.specs.Runs.{Reply, took, stopped, turned_away, gave_verdict, replies}
+use Rattle.model.specs.Orders.{Order, emptied, spawned, opened}
+use Rattle.model.specs.Trees.{Tree, planted, spawn_tree, open_tree}
 use Rattle.model.specs.Mailboxes.{mailbox_cells}
 
 -- calls and their answers, both in the order in which they are made
@@ -42,7 +44,7 @@ abbrev after : ℕ → List (Reply Cell) → List (Reply Cell)
 after ℕ.zero rs = rs
 after (suc n) rs = took None ∷ after n rs
 
--- limits that no example meets
+-- limits that no example of these meets
 abbrev wide : Limits
 wide = record { events = 65535; steps = 1001; cells = 512; names = 256 }
 
@@ -93,7 +95,7 @@ within events steps cells names es rs =
 abbrev large : Cell
 large = record { mailbox = 2 ^ 63; block = 0 }
 
--- each refusal once, by its number: 6 to 18; and a sealed run that still names its race
+-- each refusal at least once, from 6 to 18; and a sealed run that still names its race
 abbrev pub refused_examples : List Example
 refused_examples =
     ex (Read 0 large ∷ []) (turned_away 6 0 ∷ [])
@@ -123,3 +125,58 @@ refused_examples =
 -- each of these gives its answers
 abbrev pub RefusalsMet : Type 0
 RefusalsMet = Each Gives refused_examples
+
+-- calls on a run of these limits, and the last answers to them, ahead of which n events are taken with no race
+abbrev calling : Limits → List (Call Cell) → ℕ → List (Reply Cell) → Example
+calling l cs n rs = record { limits = l; calls = cs; answers = after n rs }
+
+-- where two answers fit, the one that is given; at the edge of a limit, and one past it
+abbrev pub first_examples : List Example
+first_examples =
+    -- the race is with the last write ahead of a read, and with the left read ahead of the right one
+    ex (Spawn 0 1 ∷ Write 1 x ∷ Read 1 x ∷ Write 0 x ∷ []) (after 3 (took (Some (race WriteWrite 1 3)) ∷ []))
+    ∷ ex (Spawn 0 1 ∷ Read 1 x ∷ Spawn 0 2 ∷ Read 2 x ∷ Write 0 x ∷ []) (after 4 (took (Some (race ReadWrite 1 4)) ∷ []))
+    -- a spawn: 8, 9, 13, 17
+    ∷ within 9 9 9 1 (Spawn 0 1 ∷ Spawn 0 1 ∷ Spawn 0 2 ∷ []) (after 1 (turned_away 8 1 ∷ turned_away 9 1 ∷ []))
+    ∷ within 9 9 9 1 (Spawn 0 1 ∷ End 1 ∷ Spawn 1 2 ∷ []) (after 2 (turned_away 9 2 ∷ []))
+    ∷ within 9 3 9 9 (Spawn 0 1 ∷ End 1 ∷ Spawn 1 1 ∷ Spawn 1 2 ∷ Spawn 0 2 ∷ [])
+    (after 2 (turned_away 8 2 ∷ turned_away 13 2 ∷ turned_away 17 2 ∷ []))
+    -- open, close and end: 13 comes first
+    ∷ within 9 3 9 9 (Spawn 0 1 ∷ End 1 ∷ Open 1 ∷ Close 1 ∷ End 1 ∷ [])
+    (after 2 (turned_away 13 2 ∷ turned_away 13 2 ∷ turned_away 13 2 ∷ []))
+    -- a close: 14, 15, 17
+    ∷ within 9 3 9 9 (Spawn 0 1 ∷ Close 0 ∷ []) (after 1 (turned_away 14 1 ∷ []))
+    ∷ within 9 4 9 9 (Open 0 ∷ Spawn 0 1 ∷ Close 0 ∷ End 1 ∷ Close 0 ∷ [])
+    (after 2 (turned_away 15 2 ∷ took None ∷ turned_away 17 3 ∷ []))
+    ∷ within 9 3 9 9 (Open 0 ∷ Close 0 ∷ []) (after 2 [])
+    -- an access: 13 ahead of the race
+    ∷ ex (Spawn 0 1 ∷ End 1 ∷ Write 0 x ∷ Write 1 x ∷ []) (after 3 (turned_away 13 3 ∷ []))
+    -- any event: 10, 6, 7, and only then by kind
+    ∷ within 0 9 9 9 (Read 0 large ∷ []) (turned_away 10 0 ∷ [])
+    ∷ ex (Read (2 ^ 63) x ∷ Read 9223372036854775807 x ∷ Spawn 1 0 ∷ []) (turned_away 6 0 ∷ turned_away 7 0 ∷ turned_away 7 0 ∷ [])
+    -- step 0 is held with a limit of 0 too; a cell wants room in the store
+    ∷ within 9 0 9 9 (Read 0 x ∷ Open 0 ∷ []) (after 1 (turned_away 17 1 ∷ []))
+    ∷ within 9 9 0 9 (Read 0 x ∷ []) (turned_away 18 0 ∷ [])
+    -- a raced run has stopped ahead of all but a seal; a sealed run refuses by 11, and another job's token by 12
+    ∷ within 3 9 9 9 (Spawn 0 1 ∷ Write 1 x ∷ Write 0 x ∷ Read 5 large ∷ [])
+    (after 2 (took (Some (race WriteWrite 1 2)) ∷ stopped (race WriteWrite 1 2) ∷ []))
+    ∷ calling wide (Seal 7 ∷ Seal 8 ∷ []) 0 (gave_verdict 7 None 0 ∷ turned_away 11 0 ∷ [])
+    ∷ calling wide (Feed (Spawn 0 1) ∷ Feed (Write 1 x) ∷ Feed (Write 0 x) ∷ Seal 8 ∷ Seal 7 ∷ []) 2
+    (took (Some (race WriteWrite 1 2)) ∷ turned_away 12 3 ∷ gave_verdict 7 (Some (race WriteWrite 1 2)) 3 ∷ [])
+    -- a name is never used again, and task 0 always is one
+    ∷ ex (Spawn 0 1 ∷ End 1 ∷ Spawn 0 1 ∷ Spawn 0 0 ∷ []) (after 2 (turned_away 8 2 ∷ turned_away 8 2 ∷ []))
+    ∷ []
+
+-- each of these gives its answers
+abbrev pub FirstRefusals : Type 0
+FirstRefusals = Each Gives first_examples
+
+-- the labels of the steps after spawn 0 1, open 0, spawn 0 2, as docs/RULES.md tells them
+abbrev pub LabelsTold : Type 0
+LabelsTold =
+    let a : Order = emptied 9 in
+    let b : Order = spawned a 0 in
+    let c : Order = opened b 0 in
+    let w : Tree = spawn_tree c 0 (open_tree b 0 (spawn_tree a 0 planted)) in
+    (w.step 0 ∷ w.step 1 ∷ w.step 2 ∷ w.finish 1 ∷ w.step 3 ∷ w.step 4 ∷ w.step 5 ∷ [])
+    ≡ ((0 ∷ []) ∷ (1 ∷ 0 ∷ []) ∷ (2 ∷ []) ∷ (4 ∷ []) ∷ (4 ∷ 0 ∷ []) ∷ (4 ∷ 1 ∷ 0 ∷ []) ∷ (4 ∷ 2 ∷ []) ∷ [])

@@ -12,7 +12,7 @@ abbrev pub odd : ℕ → Bool
 odd ℕ.zero = false
 odd (suc n) = not (odd n)
 
--- where the labels part, a turns to the left of b
+-- where the labels part, a turns to the left of b; a label that b goes on from counts as to its left, but no two steps stand so
 abbrev pub left : Label → Label → Bool
 left [] [] = false
 left [] (y ∷ b) = true

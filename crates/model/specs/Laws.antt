@@ -7,11 +7,11 @@ use Rattle.model.specs.declared.Race.{Race}
 use Rattle.model.specs.Lists.{below}
 use Rattle.model.specs.Past.{Past, at, behind}
 use Rattle.model.specs.Before.{HappensBefore, before, Told}
-use Rattle.model.specs.Cells.{CellKind, reads, writes, conflicts}
+use Rattle.model.specs.Accesses.{CellKind, reads, writes, conflicts}
 use Rattle.model.specs.Rules.{Limits, taken, judge}
 use Rattle.model.specs.Legal.{Legal, arranged, Beside, Settled}
 
--- happens-before is its test; it is a strict partial order, and the recorded order keeps it
+-- law 5: the test tells happens-before, which is a strict partial order; and the recorded order keeps it
 pub record StrictOrder {C : Type 0} (h : Past C) : Type 0 where
   pub tested : (i j : ℕ) → HappensBefore h i j ↔ T (before h i j)
   pub irreflexive : (i : ℕ) → HappensBefore h i i → ⊥
@@ -30,31 +30,32 @@ module _ {C : Type 0} (k : CellKind C) (l : Limits) where
   RacedBy [] r = ⊥
   RacedBy (e ∷ h) r = (judge k l h e ≡ taken (Some r)) × Clean h
 
-  -- every event was taken; the verdict is no race, or the race that the latest event made
-  abbrev pub Verdict : Past C → Option (Race C) → Type 0
-  Verdict h None = Clean h
-  Verdict h (Some r) = RacedBy h r
+  -- what comes of a past: every event was taken; and either none made a race, or the latest one made the race that is named
+  abbrev pub Outcome : Past C → Option (Race C) → Type 0
+  Outcome h None = Clean h
+  Outcome h (Some r) = RacedBy h r
 
-  -- clean exactly when settled
+  -- law 1: clean exactly when settled
   abbrev pub CleanSettled : Type 0
-  CleanSettled = (h : Past C) (m : Option (Race C)) → Verdict h m → (m ≡ None) ↔ Settled k h
+  CleanSettled = (h : Past C) (m : Option (Race C)) → Outcome h m → (m ≡ None) ↔ Settled k h
 
-  -- a race is real and latest
+  -- a race is real and latest: all before its later access is clean, and either of the two can come first
   pub record Real (h : Past C) (r : Race C) : Type 0 where
     pub clean_before : Clean (behind h r.second)
     pub latest : suc r.second ≡ length h
     pub beside : Beside h r.first r.second
 
+  -- law 2: so is each race that is named
   abbrev pub RacesReal : Type 0
-  RacesReal = (h : Past C) (r : Race C) → Verdict h (Some r) → Real h r
+  RacesReal = (h : Past C) (r : Race C) → Outcome h (Some r) → Real h r
 
-  -- any legal order is as good as the recorded one: it has all the events, and is clean
+  -- law 3: any legal order is as good as the recorded one: it has all the events, and is clean
   abbrev pub AnyOrder : Type 0
   AnyOrder = (h : Past C) → Clean h → (o : List ℕ) → Legal h o → (length (arranged h o) ≡ length h) × Clean (arranged h o)
 
-  -- the rules of happens-before, word for word, give the same relation
+  -- law 5, where events were taken: the rules of happens-before, word for word, give the same relation
   abbrev pub ToldSame : Type 0
-  ToldSame = (h : Past C) (m : Option (Race C)) → Verdict h m → (i j : ℕ) → Told h i j ↔ HappensBefore h i j
+  ToldSame = (h : Past C) (m : Option (Race C)) → Outcome h m → (i j : ℕ) → Told h i j ↔ HappensBefore h i j
 
 module _ {C : Type 0} (k : CellKind C) where
   -- d and then e touch the cell c as the kind says
@@ -75,7 +76,7 @@ module _ {C : Type 0} (k : CellKind C) where
 
   -- the race that is named is the first unordered conflict
   pub record FirstConflict (h : Past C) (m : Option (Race C)) : Type 0 where
-    -- an unordered conflict is named, by its later place, and there is none up to there
+    -- where there is an unordered conflict a race is named, by its later place, and no unordered conflict ends earlier
     pub found : (i j : ℕ) → Unordered h i j
         → (r : Race C) × (m ≡ Some r) × (r.second ≡ j) × ((a b : ℕ) → b < j → Unordered h a b → ⊥)
     -- a named race is such a conflict
@@ -84,6 +85,6 @@ module _ {C : Type 0} (k : CellKind C) where
     pub described : (r : Race C) → m ≡ Some r → (d e : Event C) → at h r.first ≡ Some d → at h r.second ≡ Some e
         → T (of_kind r.kind r.cell d e)
 
-  -- the first unordered conflict is the race
+  -- law 4: the first unordered conflict is the race
   abbrev pub FirstNamed : Limits → Type 0
-  FirstNamed l = (h : Past C) (m : Option (Race C)) → Verdict k l h m → FirstConflict h m
+  FirstNamed l = (h : Past C) (m : Option (Race C)) → Outcome k l h m → FirstConflict h m

@@ -4,7 +4,7 @@ use Rattle.model.specs.declared.Event.{Event}
 use Rattle.model.specs.Lists.{keep, mem, first_of, some_or}
 use Rattle.model.specs.Past.{Past, at}
 use Rattle.model.specs.Before.{HappensBefore}
-use Rattle.model.specs.Cells.{CellKind, writes, accesses}
+use Rattle.model.specs.Accesses.{CellKind, writes, accesses}
 
 -- An order of a past is a list of its places, like the past itself the latest first.
 
@@ -29,7 +29,7 @@ abbrev pub part_ahead : List ℕ → ℕ → List ℕ
 part_ahead [] i = []
 part_ahead (x ∷ o) i = cond (x == i) o (part_ahead o i)
 
--- two legal orders put a and b side by side, once each way round
+-- two legal orders put a and b side by side, once each way round, and differ in nothing else
 pub record Beside {C : Type 0} (h : Past C) (a b : ℕ) : Type 0 where
   pub later : List ℕ
   pub sooner : List ℕ

@@ -4,23 +4,18 @@ use Rattle.model.specs.declared.Event.{Event}
 use Rattle.model.specs.declared.Event.TheVariants.{Spawn, End, Open, Close}
 use Rattle.model.specs.declared.Race.{Race}
 use Rattle.model.specs.Lists.{mem, some_or}
-use Rattle.model.specs.Past.{Past, at, behind, actor, makes, child}
+use Rattle.model.specs.Past.{Past, at, behind, actor, makes, spawned_tasks}
 use Rattle.model.specs.Before.{before, serial}
-use Rattle.model.specs.Cells.{CellKind, is_access}
+use Rattle.model.specs.Accesses.{CellKind, is_access}
 use Rattle.model.specs.Rules.{Limits}
-use Rattle.model.specs.Laws.{Verdict}
+use Rattle.model.specs.Laws.{Outcome}
 use Rattle.model.specs.Orders.{Order, emptied, spawned, opened, closed, done}
 use Rattle.model.specs.Reached.{Reached}
 
--- how many tasks were spawned
-abbrev pub spawns : {C : Type 0} → Past C → ℕ
-spawns [] = 0
-spawns (e ∷ h) = some_or (λ u. spawns h + 1) (spawns h) (child e)
-
--- a keeper numbers tasks as they are made: task 0 is 0, and the n-th spawned task is n
+-- the number that a keeper gives a task: task 0 has 0, and the n-th spawned task n
 abbrev pub number : {C : Type 0} → Past C → ℕ → ℕ
 number [] u = 0
-number (e ∷ h) u = cond (makes u e) (spawns h + 1) (number h u)
+number (e ∷ h) u = cond (makes u e) (length (spawned_tasks h) + 1) (number h u)
 
 -- how an event moves the order
 abbrev pub moved : {C : Type 0} → Past C → Order → Event C → Order
@@ -67,4 +62,4 @@ pub record Linked {C : Type 0} (limit : ℕ) (h : Past C) : Type 0 where
 
 -- steps tell of events
 abbrev pub StepsTell : {C : Type 0} → CellKind C → Limits → Type 0
-StepsTell {C} k l = (h : Past C) (m : Option (Race C)) → Verdict k l h m → Linked l.steps h
+StepsTell {C} k l = (h : Past C) (m : Option (Race C)) → Outcome k l h m → Linked l.steps h

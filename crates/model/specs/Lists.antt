@@ -1,5 +1,5 @@
 -- Small words on lists and options that the other files use.
-use Rattle.std.specs.Prelude.{ℕ, suc, Bool, true, false, cond, ◌||◌, List, [], ◌∷◌, ◌++◌, Some, None, Option, nat_eq}
+use Rattle.std.specs.Prelude.{ℕ, suc, Bool, true, false, cond, ◌||◌, List, [], ◌∷◌, ◌++◌, Some, None, Option, ◌==◌, nat_eq}
 
 -- whether one of them passes
 abbrev pub any : {A : Type 0} → (A → Bool) → List A → Bool
@@ -50,6 +50,10 @@ is_empty (x ∷ xs) = false
 abbrev pub below : ℕ → List ℕ
 below ℕ.zero = []
 below (suc n) = n ∷ below n
+
+-- a function, changed at one number
+abbrev pub put : {A : Type 0} → (ℕ → A) → ℕ → A → ℕ → A
+put f k v x = cond (x == k) v (f x)
 
 -- what f gives of a value that is there, or d
 abbrev pub some_or : {A B : Type 0} → (A → B) → B → Option A → B

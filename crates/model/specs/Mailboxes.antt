@@ -3,7 +3,7 @@ use Rattle.std.specs.Prelude.{◌≡◌, Bool, true, false, ◌&&◌, T, ◌==�
 use Rattle.std.proofs.Common.{eqb→eq}
 use Rattle.std.proofs.Math.Dec.{eqb_refl}
 use Rattle.model.specs.declared.Cell.{Cell}
-use Rattle.model.specs.Cells.{CellKind}
+use Rattle.model.specs.Accesses.{CellKind}
 use Rattle.model.specs.Rules.{within_max}
 
 -- the same mailbox and the same block
@@ -14,7 +14,6 @@ same_cell a b = a.mailbox == b.mailbox && a.block == b.block
 abbrev pub cell_fits : Cell → Bool
 cell_fits c = within_max c.mailbox && within_max c.block
 
--- the test is passed by equal cells, and by no others
 both : (p q : Bool) → T (p && q) → T p × T q
 both true q h = (tt, h)
 both false q h = absurd h
@@ -23,6 +22,7 @@ and : (p q : Bool) → T p → T q → T (p && q)
 and true q h k = k
 and false q h k = absurd h
 
+-- the test is passed by equal cells, and by no others
 pub same_cell_is : (a b : Cell) → T (same_cell a b) → a ≡ b
 same_cell_is a b h =
     let (p, q) = both (a.mailbox == b.mailbox) (a.block == b.block) h in

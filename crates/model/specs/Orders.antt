@@ -1,6 +1,6 @@
 -- What an order keeper means: its steps, which is before which, their serial order, its tasks and its finishes.
 use Rattle.std.specs.Prelude.{ℕ, ◌+◌, Bool, true, false, cond, not, ◌&&◌, ◌||◌, List, [], ◌∷◌, ◌==◌, nat_lt}
-use Rattle.model.specs.Lists.{any, head_or, rest, below, is_empty}
+use Rattle.model.specs.Lists.{any, head_or, rest, below, is_empty, put}
 
 -- a task: whether it runs, its current step, and its finishes, the innermost first and the one it lives in last
 pub record Task : Type 0 where
@@ -41,29 +41,20 @@ emptied limit = record {
   last = λ f s. false;
 }
 
--- the step by whose place a step is told in serial order: its own, or s if it is new
+-- the step by whose place in serial order a step is told: a step that is held by its own, a new one by that of s
 abbrev anchor : Order → ℕ → ℕ → ℕ
 anchor m s a = cond (nat_lt a m.steps) a s
 
 -- serial order with `new` more steps that stand, in turn, straight after s
+-- of two steps that are told by one place, the one that was made first is earlier
 abbrev pub earlier_with : Order → ℕ → ℕ → ℕ → ℕ → Bool
 earlier_with m s new a b =
     nat_lt a (m.steps + new) && (nat_lt b (m.steps + new)
-    && cond (anchor m s a == anchor m s b) (tie (nat_lt a m.steps) (nat_lt b m.steps)) (m.earlier (anchor m s a) (anchor m s b)))
-  where
-    tie : Bool → Bool → Bool
-    tie true true = false
-    tie true false = true
-    tie false true = false
-    tie false false = nat_lt a b
+    && cond (anchor m s a == anchor m s b) (nat_lt a b) (m.earlier (anchor m s a) (anchor m s b)))
 
--- the step a is s, or before s
-abbrev pub at_or_before : Order → ℕ → ℕ → Bool
-at_or_before m s a = a == s || m.before a s
-
--- one task changed
-abbrev pub retask : (ℕ → Task) → ℕ → Task → ℕ → Task
-retask task t new u = cond (u == t) new (task u)
+-- the step s is a, or comes after a
+abbrev pub at_or_after : Order → ℕ → ℕ → Bool
+at_or_after m s a = a == s || m.before a s
 
 -- a spawn makes a step for the child and then one for the spawner; its current step and all before that are before both
 abbrev pub spawned : Order → ℕ → Order
@@ -72,10 +63,10 @@ spawned m t =
     let f : ℕ = head_or (m.task t).finishes 0 in
     record m {
       steps = m.steps + 2;
-      before = λ a b. cond (b == m.steps || b == m.steps + 1) (at_or_before m s a) (m.before a b);
+      before = λ a b. cond (b == m.steps || b == m.steps + 1) (at_or_after m s a) (m.before a b);
       earlier = earlier_with m s 2;
       tasks = m.tasks + 1;
-      task = retask (retask m.task t (record { running = true; current = m.steps + 1; finishes = (m.task t).finishes }))
+      task = put (put m.task t (record { running = true; current = m.steps + 1; finishes = (m.task t).finishes }))
           m.tasks (record { running = true; current = m.steps; finishes = f ∷ [] });
       lives = λ g u. (g == f && u == m.tasks) || m.lives g u;
     }
@@ -86,9 +77,9 @@ opened m t =
     let s : ℕ = (m.task t).current in
     record m {
       steps = m.steps + 1;
-      before = λ a b. cond (b == m.steps) (at_or_before m s a) (m.before a b);
+      before = λ a b. cond (b == m.steps) (at_or_after m s a) (m.before a b);
       earlier = earlier_with m s 1;
-      task = retask m.task t (record { running = true; current = m.steps; finishes = m.finishes ∷ (m.task t).finishes });
+      task = put m.task t (record { running = true; current = m.steps; finishes = m.finishes ∷ (m.task t).finishes });
       finishes = m.finishes + 1;
     }
 
@@ -100,9 +91,9 @@ closed m t =
     record m {
       steps = m.steps + 1;
       before = λ a b. cond (b == m.steps)
-          (at_or_before m s a || any (λ l. m.last f l && at_or_before m l a) (below m.steps)) (m.before a b);
+          (at_or_after m s a || any (λ l. m.last f l && at_or_after m l a) (below m.steps)) (m.before a b);
       earlier = earlier_with m s 1;
-      task = retask m.task t (record { running = true; current = m.steps; finishes = rest (m.task t).finishes });
+      task = put m.task t (record { running = true; current = m.steps; finishes = rest (m.task t).finishes });
     }
 
 -- an end makes no step; the task leaves the finish it lives in, and its current step joins the last steps there
@@ -111,14 +102,14 @@ done m t =
     let s : ℕ = (m.task t).current in
     let f : ℕ = head_or (m.task t).finishes 0 in
     record m {
-      task = retask m.task t (record { running = false; current = s; finishes = [] });
+      task = put m.task t (record { running = false; current = s; finishes = [] });
       lives = λ g u. not (u == t) && m.lives g u;
       last = λ g l. (g == f && l == s) || m.last g l;
     }
 
 -- What a call is refused for.
 
--- the task has ended, or is not held
+-- a task has ended, or is not held
 abbrev pub gone : Order → ℕ → Bool
 gone m t = not (m.task t).running
 
@@ -126,7 +117,7 @@ gone m t = not (m.task t).running
 abbrev pub few : Order → ℕ → Bool
 few m n = nat_lt m.limit (m.steps + n)
 
--- of a task's finishes, one is its own
+-- of a task's finishes, one is its own: all but the last are
 abbrev pub has_own : List ℕ → Bool
 has_own [] = false
 has_own (f ∷ fs) = not (is_empty fs)

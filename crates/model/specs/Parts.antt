@@ -1,6 +1,6 @@
 -- A run by its parts: what it holds of its past is an order, the histories of cells, the numbers of tasks and a count.
 -- What the rules say of a clean past can be said from these alone, and after a taken event they are those of the longer past.
-use Rattle.std.specs.Prelude.{◌≡◌, ℕ, ◌+◌, ◌<◌, ◌≤◌, Bool, true, false, cond, not, ◌||◌, [], ◌∷◌, length, Some, None, Option, ◌==◌, nat_eq, nat_le}
+use Rattle.std.specs.Prelude.{◌≡◌, ℕ, ◌+◌, ◌<◌, ◌≤◌, Bool, true, false, cond, not, [], ◌∷◌, length, Some, None, Option, ◌==◌, nat_eq, nat_le}
 use Rattle.model.specs.declared.Event.{Event}
 use Rattle.model.specs.declared.Event.TheVariants.{Spawn, End, Open, Close, Read, Write}
 use Rattle.model.specs.declared.RaceKind.{RaceKind}
@@ -10,10 +10,13 @@ use Rattle.model.specs.declared.Mark.{Mark}
 use Rattle.model.specs.declared.History.{History}
 use Rattle.model.specs.Lists.{some_or, head_or}
 use Rattle.model.specs.Past.{Past, actor, made, spawned_tasks}
-use Rattle.model.specs.Cells.{CellKind, last_write, left_read, right_read, cell_held, cells_held}
+use Rattle.model.specs.Accesses.{CellKind}
+use Rattle.model.specs.Cells.{last_write, left_read, right_read, cell_held, cells_held}
 use Rattle.model.specs.Rules.{Limits, Answer, taken, refused, refusal, numbers_fit, judge}
 use Rattle.model.specs.Laws.{Clean}
-use Rattle.model.specs.Orders.{Order, emptied, spawned, opened, closed, done, at_or_before, gone, few, has_own, lived}
+use Rattle.model.specs.Orders.{Order, emptied, spawned, opened, closed, done, at_or_after, gone, few, has_own, lived}
+use Rattle.model.specs.Reached.{Reached}
+use Rattle.model.specs.Readers.{moves_left, moves_right}
 use Rattle.model.specs.Link.{order_of, number, step_now, step_at}
 
 -- what a keyed table means: how many keys it may hold, how many it holds, and what it has for each
@@ -26,7 +29,7 @@ pub record Keyed (K V : Type 0) : Type 0 where
 abbrev pub none_held : {K V : Type 0} → ℕ → Keyed K V
 none_held n = record { limit = n; count = 0; find = λ key. None }
 
--- there is no room for a key that is not held
+-- a key is not held, and there is no room for one more
 abbrev pub no_room : {K V : Type 0} → Keyed K V → K → Bool
 no_room t key = some_or (λ v. false) (nat_le t.limit t.count) (t.find key)
 
@@ -59,20 +62,21 @@ task_number p t = cond (t == 0) (Some 0) (p.names.find t)
 abbrev pub history_in : {C : Type 0} → Keyed C History → C → History
 history_in t c = some_or (λ x. x) blank (t.find c)
 
--- a mark is on the step s, or before it
-abbrev pub in_order : Order → ℕ → Mark → Bool
-in_order m s w = at_or_before m s w.step
+-- the step s is that of a mark, or comes after it
+abbrev pub after_mark : Order → ℕ → Mark → Bool
+after_mark m s w = at_or_after m s w.step
 
--- the race of an access of c on the step s at the place n with a mark that is not in order; or else what `other` says
+-- the race of an access of c on the step s at the place n with a mark that s does not come after; or else what `other` says
 abbrev pub race_on : {C : Type 0} → RaceKind → Order → ℕ → ℕ → C → Option Mark → Option (Race C) → Option (Race C)
 race_on kind m s n c None other = other
 race_on kind m s n c (Some w) other =
-    cond (in_order m s w) other (Some (record { kind = kind; cell = c; first = w.place; second = n }))
+    cond (after_mark m s w) other (Some (record { kind = kind; cell = c; first = w.place; second = n }))
 
--- the race of a read, and of a write, by the task with number n
+-- the race of a read by the task with number n
 abbrev pub read_race : {C : Type 0} → Parts C → ℕ → C → Option (Race C)
 read_race p n c = race_on WriteRead p.order (p.order.task n).current p.count c (history_in p.cells c).write None
 
+-- the race of a write by the task with number n
 abbrev pub write_race : {C : Type 0} → Parts C → ℕ → C → Option (Race C)
 write_race p n c =
     let s : ℕ = (p.order.task n).current in
@@ -100,26 +104,26 @@ judged_kind p n (Close t) =
 judged_kind p n (Read t c) = refusal ((gone p.order n, 13) ∷ []) (judged_access p c (read_race p n c))
 judged_kind p n (Write t c) = refusal ((gone p.order n, 13) ∷ []) (judged_access p c (write_race p n c))
 
--- the reads that are kept after one more read, on the step s at the place n
--- left: the new one if the old one is on its step or before it, else the first of the two in serial order
+-- the left read after one more read, on the step s at the place n:
+-- the new one if the old one is on its step or before it, else the first of the two in serial order
 abbrev pub new_left : Order → ℕ → ℕ → Option Mark → Mark
 new_left m s n None = record { step = s; place = n }
-new_left m s n (Some w) = cond (in_order m s w || m.earlier s w.step) (record { step = s; place = n }) w
+new_left m s n (Some w) = cond (moves_left m s w.step) (record { step = s; place = n }) w
 
--- right: likewise, with the last of the two
+-- the right read: likewise, with the last of the two
 abbrev pub new_right : Order → ℕ → ℕ → Option Mark → Mark
 new_right m s n None = record { step = s; place = n }
-new_right m s n (Some w) = cond (in_order m s w || m.earlier w.step s) (record { step = s; place = n }) w
+new_right m s n (Some w) = cond (moves_right m s w.step) (record { step = s; place = n }) w
 
 -- a history after a read, on the step s at the place n
 abbrev pub after_read : Order → ℕ → ℕ → History → History
 after_read m s n x = record x { left = Some (new_left m s n x.left); right = Some (new_right m s n x.right) }
 
--- and after a write: no read is since it
+-- a history after a write: there is no read since it
 abbrev pub after_write : ℕ → ℕ → History
 after_write s n = record blank { write = Some (record { step = s; place = n }) }
 
--- one more event is counted, and nothing else is changed: this is what a racing access does
+-- one more event is counted, and nothing else is changed
 abbrev pub counted : {C : Type 0} → Parts C → Parts C
 counted p = record p { count = p.count + 1 }
 
@@ -181,7 +185,8 @@ pub record HistoryHeld (steps count : ℕ) (x : History) : Type 0 where
   pub left_held : MarkHeld steps count x.left
   pub right_held : MarkHeld steps count x.right
 
--- the parts stay within the limits that a run was opened with, and what they hold is within the order and the count
+-- the order is one that a keeper reaches; the parts stay within the limits that a run was opened with,
+-- and what they hold is within the order and the count
 pub record Room {C : Type 0} (l : Limits) (p : Parts C) : Type 0 where
   pub count_within : p.count ≤ l.events
   pub names_limit : p.names.limit ≡ l.names
@@ -189,25 +194,30 @@ pub record Room {C : Type 0} (l : Limits) (p : Parts C) : Type 0 where
   pub cells_limit : p.cells.limit ≡ l.cells
   pub cells_within : p.cells.count ≤ l.cells
   pub steps_limit : p.order.limit ≡ l.steps
+  -- step 0 is held whatever the limit
   pub steps_within : 1 ≤ l.steps → p.order.steps ≤ l.steps
   pub tasks_are : p.order.tasks ≡ p.names.count + 1
-  pub finishes_within : p.order.finishes ≤ p.order.steps
+  pub reached : Reached l.steps p.order
   pub history_held : (c : C) (x : History) → p.cells.find c ≡ Some x → HistoryHeld p.order.steps p.count x
   pub number_held : (t n : ℕ) → task_number p t ≡ Some n → (n < p.order.tasks) × ((p.order.task n).current < p.order.steps)
 
 module _ {C : Type 0} (k : CellKind C) (l : Limits) where
-  -- judged by parts: what can be said and done from the parts of a clean past
+  -- what can be said and done from the parts of a clean past
   pub record ByParts (h : Past C) : Type 0 where
     pub judged_is : (e : Event C) → judged k l.events (parts_of k l h) e ≡ judge k l h e
-    pub stepped_is : (e : Event C) → judge k l h e ≡ taken None → parts_of k l (e ∷ h) ≡ stepped k (parts_of k l h) e
+    pub stepped_is : (e : Event C) (r : Option (Race C)) → judge k l h e ≡ taken r → parts_of k l (e ∷ h) ≡ stepped k (parts_of k l h) e
+    -- an access that makes a race changes nothing but the cells, of which a raced run asks nothing more
+    pub raced_is : (e : Event C) (r : Race C) → judge k l h e ≡ taken (Some r)
+        → record (parts_of k l (e ∷ h)) { cells = (parts_of k l h).cells } ≡ counted (parts_of k l h)
     pub counted_is : (e : Event C) (r : Option (Race C)) → judge k l h e ≡ taken r → length h < l.events
     pub number_is : (t n : ℕ) → task_number (parts_of k l h) t ≡ Some n → n ≡ number h t
     pub room : Room l (parts_of k l h)
 
+  -- law 8: clean pasts are judged by their parts
   abbrev pub JudgedByParts : Type 0
   JudgedByParts = (parts_of k l [] ≡ emptied_parts l) × ((h : Past C) → Clean k l h → ByParts h)
 
-  -- the marks that are kept up to date are the marks of the definition
+  -- law 7, of marks: those that are kept up to date are those of the definition
   abbrev pub MarksKept : Type 0
   MarksKept = (h : Past C) (e : Event C) → Clean k l h → judge k l h e ≡ taken None → (c : C)
       → history_of k (e ∷ h) c ≡ history_with k (order_of l.steps h) (step_now h (actor e)) (length h) e c (history_of k h c)

@@ -4,7 +4,7 @@ use Rattle.model.specs.declared.Event.{Event}
 use Rattle.model.specs.declared.Event.TheVariants.{Spawn, End, Open, Close, Read, Write}
 use Rattle.model.specs.Lists.{any, rest, some_or}
 
--- the events, the latest first
+-- a list of events, the latest first; the laws speak of those whose events a run has taken
 abbrev pub Past : Type 0 → Type 0
 Past C = List (Event C)
 
@@ -15,7 +15,7 @@ abbrev pub at : {C : Type 0} → Past C → ℕ → Option (Event C)
 at [] i = None
 at (e ∷ h) i = cond (i == length h) (Some e) (at h i)
 
--- the past that the event at a place found
+-- the events that were taken before the one at a place
 abbrev pub behind : {C : Type 0} → Past C → ℕ → Past C
 behind [] i = []
 behind (e ∷ h) i = cond (i == length h) h (behind h i)
@@ -43,10 +43,11 @@ abbrev pub ends : {C : Type 0} → ℕ → Event C → Bool
 ends u (End t) = u == t
 ends u e = false
 
--- whether the task u was made, and whether it has ended
+-- whether the task u was made
 abbrev pub made : {C : Type 0} → Past C → ℕ → Bool
 made h u = any (makes u) h
 
+-- whether the task u has ended
 abbrev pub ended : {C : Type 0} → Past C → ℕ → Bool
 ended h u = any (ends u) h
 
@@ -76,7 +77,7 @@ abbrev pub opens : {C : Type 0} → Past C → ℕ → ℕ
 opens [] t = 0
 opens (e ∷ h) t = cond (is_open e && t == actor e) (suc (opens h t)) (opens h t)
 
--- what an event makes of the finishes of its own that t has open, where t has opened n so far
+-- the finishes of its own that t has open after an event, by those before it; t has opened n finishes before it
 abbrev pub own_after : {C : Type 0} → Event C → ℕ → ℕ → List ℕ → List ℕ
 own_after (Open a) t n own = cond (t == a) (n ∷ own) own
 own_after (Close a) t n own = cond (t == a) (rest own) own
@@ -87,7 +88,7 @@ abbrev pub own : {C : Type 0} → Past C → ℕ → List ℕ
 own [] t = []
 own (e ∷ h) t = own_after e t (opens h t) (own h t)
 
--- the innermost finish of t: its own, or else the one that it lives in
+-- the innermost finish of t: the first of its own, or else the one that it lives in
 abbrev pub innermost_of : ℕ → List ℕ → Finish → Finish
 innermost_of t [] home = home
 innermost_of t (n ∷ own) home = opened_by t n

@@ -1,5 +1,6 @@
 -- The orders that a keeper's own calls can reach, and what holds of each of them.
-use Rattle.std.specs.Prelude.{◌≡◌, ℕ, ◌<◌, T, ◌⊎◌, List, [], ◌∷◌, ◌≢◌}
+use Rattle.std.specs.Prelude.{◌≡◌, ℕ, ◌<◌, ◌≤◌, T, ◌⊎◌, List, [], ◌∷◌, ◌≢◌}
+use Rattle.model.specs.Lists.{mem}
 use Rattle.model.specs.Orders.{Order, emptied, spawned, opened, closed, done}
 
 -- calls of running tasks: a close needs a finish of its own open in which no task lives, an end needs none open
@@ -21,8 +22,14 @@ pub record OrderLaws (m : Order) : Type 0 where
   pub earlier_trans : (a b c : ℕ) → T (m.earlier a b) → T (m.earlier b c) → T (m.earlier a c)
   pub earlier_irrefl : (a : ℕ) → T (m.earlier a a) → ⊥
   pub earlier_total : (a b : ℕ) → a < m.steps → b < m.steps → (a ≢ b) → T (m.earlier a b) ⊎ T (m.earlier b a)
-  -- a step that a running task is on is held, and is before no step
+  -- there are no more tasks than steps, and no more finishes
+  pub tasks_within : m.tasks ≤ m.steps
+  pub finishes_within : m.finishes ≤ m.steps
+  -- a running task is held, and so are its finishes
+  pub task_held : (t : ℕ) → T (m.task t).running → t < m.tasks
+  pub finish_held : (t f : ℕ) → T (m.task t).running → T (mem f (m.task t).finishes) → f < m.finishes
+  -- the step that a running task is on is held, and is before no step
   pub current_held : (t : ℕ) → T (m.task t).running → (m.task t).current < m.steps
   pub current_last : (t b : ℕ) → T (m.task t).running → T (m.before (m.task t).current b) → ⊥
-  -- of two unordered steps, the later one in serial order is before a third that comes after both wherever the earlier one is
+  -- of a, b and c in serial order, with a not before b: if a is before c, then so is b
   pub between : (a b c : ℕ) → T (m.earlier a b) → T (m.earlier b c) → (T (m.before a b) → ⊥) → T (m.before a c) → T (m.before b c)

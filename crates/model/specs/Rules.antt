@@ -1,4 +1,5 @@
--- The rules: which event is taken, which is refused and by what number, and what a taken access races with.
+-- The rules: which event is taken, which is refused and by what number (docs/REFUSALS.md has them all), and what a taken access
+-- races with.
 use Rattle.std.specs.Prelude.{ℕ, ◌+◌, ◌^◌, Bool, cond, not, ◌&&◌, ◌||◌, List, [], ◌∷◌, length, Some, None, Option, ◌==◌, nat_le, nat_lt}
 use Rattle.model.specs.declared.Event.{Event}
 use Rattle.model.specs.declared.Event.TheVariants.{Spawn, End, Open, Close, Read, Write}
@@ -8,7 +9,8 @@ use Rattle.model.specs.declared.Race.{Race}
 use Rattle.model.specs.Lists.{is_empty}
 use Rattle.model.specs.Past.{Past, actor, made, ended, spawned_tasks, own, innermost, lived_in}
 use Rattle.model.specs.Before.{before}
-use Rattle.model.specs.Cells.{CellKind, cell_held, cells_held, last_write, left_read, right_read}
+use Rattle.model.specs.Accesses.{CellKind}
+use Rattle.model.specs.Cells.{cell_held, cells_held, last_write, left_read, right_read}
 
 -- how much a run may hold: events taken, steps of its order keeper, cells of its store, names of spawned tasks
 pub record Limits : Type 0 where
@@ -26,13 +28,14 @@ pub data Answer (C : Type 0) : Type 0 where
 abbrev pub within_max : ℕ → Bool
 within_max n = nat_lt n (2 ^ 63)
 
--- how many steps an event makes, and how many a past holds
+-- how many steps an event makes; `Orders` says what a step is
 abbrev pub steps_of : {C : Type 0} → Event C → ℕ
 steps_of (Spawn t u) = 2
 steps_of (Open t) = 1
 steps_of (Close t) = 1
 steps_of e = 0
 
+-- how many steps a past holds: step 0, whatever the limit is, and those that its events make
 abbrev pub steps_held : {C : Type 0} → Past C → ℕ
 steps_held [] = 1
 steps_held (e ∷ h) = steps_of e + steps_held h
@@ -66,12 +69,17 @@ module _ {C : Type 0} (k : CellKind C) where
   numbers_fit (Read t c) = within_max t && k.fits c
   numbers_fit (Write t c) = within_max t && k.fits c
 
-  -- a race is answered ahead of want of room in the store
+  -- what is said to an access of c by the race that it makes; want of room for the cell counts only where it makes none
   abbrev pub accessed : Limits → Past C → C → Option (Race C) → Answer C
   accessed l h c None = refusal ((not (cell_held k h c) && nat_le l.cells (cells_held k h), 18) ∷ []) (taken None)
   accessed l h c (Some r) = taken (Some r)
 
-  -- what is said to an event of a known task, by its kind
+  -- the tests that come ahead of all others, each with the number of its refusal
+  abbrev pub first_tests : Limits → Past C → Event C → List (Bool × ℕ)
+  first_tests l h e =
+      (nat_le l.events (length h), 10) ∷ (not (numbers_fit e), 6) ∷ (not (actor e == 0 || made h (actor e)), 7) ∷ []
+
+  -- what is said to an event that passes these, by its kind
   abbrev pub by_kind : Limits → Past C → Event C → Answer C
   by_kind l h (Spawn t u) =
       refusal
@@ -92,9 +100,4 @@ module _ {C : Type 0} (k : CellKind C) where
 
   -- what a feeding run with the limits l and the past h says to the event e
   abbrev pub judge : Limits → Past C → Event C → Answer C
-  judge l h e =
-      refusal
-      ((nat_le l.events (length h), 10)
-      ∷ (not (numbers_fit e), 6)
-      ∷ (not (actor e == 0 || made h (actor e)), 7) ∷ [])
-      (by_kind l h e)
+  judge l h e = refusal (first_tests l h e) (by_kind l h e)

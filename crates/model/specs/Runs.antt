@@ -1,5 +1,5 @@
 -- Runs, by the calls made on them: what each call is answered, where the run then stands, and the laws for every list of calls.
-use Rattle.std.specs.Prelude.{◌≡◌, ℕ, cond, ◌⊎◌, ◌↔◌, List, [], ◌∷◌, length, Some, None, Option, ◌==◌}
+use Rattle.std.specs.Prelude.{◌≡◌, ℕ, Bool, true, false, cond, not, T, ◌⊎◌, ◌↔◌, List, [], ◌∷◌, length, Some, None, Option, ◌==◌, ◌≢◌}
 use Rattle.model.specs.declared.Event.{Event}
 use Rattle.model.specs.declared.Race.{Race}
 use Rattle.model.specs.declared.Stage.{Stage}
@@ -7,10 +7,10 @@ use Rattle.model.specs.declared.Stage.TheVariants.{Feeding, Raced, Sealed}
 use Rattle.model.specs.declared.Call.{Call}
 use Rattle.model.specs.declared.Call.TheVariants.{Feed, Seal}
 use Rattle.model.specs.Past.{Past}
-use Rattle.model.specs.Cells.{CellKind}
+use Rattle.model.specs.Accesses.{CellKind}
 use Rattle.model.specs.Rules.{Limits, Answer, taken, refused, judge}
 use Rattle.model.specs.Legal.{Legal, Settled, arranged}
-use Rattle.model.specs.Laws.{Verdict, Real, FirstConflict}
+use Rattle.model.specs.Laws.{Outcome, Real, FirstConflict}
 
 -- what a run is opened with
 pub record Opening : Type 0 where
@@ -31,7 +31,12 @@ pub data Reply (C : Type 0) : Type 0 where
   turned_away : ℕ → ℕ → Reply C
   gave_verdict : ℕ → Option (Race C) → ℕ → Reply C
 
--- the race that a run names
+-- whether a run is sealed
+abbrev pub is_sealed : {C : Type 0} → Stage C → Bool
+is_sealed (Sealed o) = true
+is_sealed s = false
+
+-- the race that a run names, sealed or not
 abbrev pub named : {C : Type 0} → Stage C → Option (Race C)
 named Feeding = None
 named (Raced r) = Some r
@@ -46,7 +51,7 @@ answer_reply n (refused m) = turned_away m n
 abbrev pub seal_reply : {C : Type 0} → ℕ → ℕ → Option (Race C) → ℕ → Reply C
 seal_reply own n r j = cond (j == own) (gave_verdict own r n) (turned_away 12 n)
 
--- what a call is answered, by what is said of an event, the run's job, the count of events taken, and the stage and the call together
+-- what a call is answered, by the stage and the call together: `says` judges an event, `own` is the run's job, and n events are taken
 abbrev pub reply_by : {C : Type 0} → (Event C → Answer C) → ℕ → ℕ → Stage C → Call C → Reply C
 reply_by says own n Feeding (Feed e) = answer_reply n (says e)
 reply_by says own n Feeding (Seal j) = seal_reply own n None j
@@ -54,12 +59,12 @@ reply_by says own n (Raced r) (Feed e) = stopped r
 reply_by says own n (Raced r) (Seal j) = seal_reply own n (Some r) j
 reply_by says own n (Sealed r) c = turned_away 11 n
 
--- the token that a call hands back: that of a seal which is turned away
-abbrev pub handed_back : {C : Type 0} → Call C → Reply C → Option ℕ
-handed_back (Seal j) (turned_away n p) = Some j
-handed_back c r = None
+-- the job of the token that a seal hands back: its own, if it is turned away
+abbrev pub handed_back : {C : Type 0} → ℕ → Reply C → Option ℕ
+handed_back j (turned_away n p) = Some j
+handed_back j r = None
 
--- the stage after a taken event
+-- the stage after an event was taken, with its race
 abbrev pub stage_with : {C : Type 0} → Option (Race C) → Stage C
 stage_with None = Feeding
 stage_with (Some r) = Raced r
@@ -70,11 +75,12 @@ moved_by s (Feed e) (took r) = record { past = e ∷ s.past; stage = stage_with 
 moved_by s (Seal j) (gave_verdict i r n) = record s { stage = Sealed r }
 moved_by s c r = s
 
--- the events of a past, fed one after the other, and the answers if each is taken with no race
+-- the events of a past, fed one after the other
 abbrev pub all_fed : {C : Type 0} → Past C → List (Call C)
 all_fed [] = []
 all_fed (e ∷ h) = Feed e ∷ all_fed h
 
+-- the answers if each of them is taken with no race
 abbrev pub each_took : {C : Type 0} → Past C → List (Reply C)
 each_took [] = []
 each_took (e ∷ h) = took None ∷ each_took h
@@ -94,30 +100,48 @@ module _ {C : Type 0} (k : CellKind C) (o : Opening) where
   replies [] = []
   replies (c ∷ cs) = answer_to (after_calls cs) c ∷ replies cs
 
-  -- the events that a list of calls took, and the race that it names
+  -- the events that a list of calls has taken
   abbrev pub past_of : List (Call C) → Past C
   past_of cs = (after_calls cs).past
 
+  -- the race that is then named
   abbrev pub race_named : List (Call C) → Option (Race C)
   race_named cs = named (after_calls cs).stage
 
-  -- what a seal with a token of the job j comes to, on a run that names the race m after n events
-  abbrev pub Sealing : Option (Race C) → ℕ → ℕ → Reply C → Type 0
-  Sealing m n j r =
-      ((r ≡ gave_verdict o.job m n) × (handed_back (Seal j) r ≡ None))
-      ⊎ (((r ≡ turned_away 11 n) ⊎ (r ≡ turned_away 12 n)) × (handed_back (Seal j) r ≡ Some j))
+  -- what an event comes to where the run stands:
+  -- a sealed run refuses it by 11, a raced one has stopped, and a feeding one answers what the rules say
+  abbrev pub EventAnswered : Standing C → Event C → Reply C → Type 0
+  EventAnswered s e r =
+      (T (is_sealed s.stage) × (r ≡ turned_away 11 (length s.past)))
+      ⊎ (((q : Race C) × (s.stage ≡ Raced q) × (r ≡ stopped q))
+      ⊎ ((s.stage ≡ Feeding) × (r ≡ answer_reply (length s.past) (judge k o.limits s.past e))))
 
-  -- the laws for a list of calls, refused and stopped ones included
+  -- what a seal with a token of the job j comes to:
+  -- a sealed run refuses it by 11, one of another job by 12, and both hand the token back; else it gives the verdict and spends it
+  abbrev pub SealAnswered : Standing C → ℕ → Reply C → Type 0
+  SealAnswered s j r =
+      (T (is_sealed s.stage) × (r ≡ turned_away 11 (length s.past)) × (handed_back j r ≡ Some j))
+      ⊎ ((T (not (is_sealed s.stage)) × (j ≢ o.job) × (r ≡ turned_away 12 (length s.past)) × (handed_back j r ≡ Some j))
+      ⊎ (T (not (is_sealed s.stage)) × (j ≡ o.job) × (r ≡ gave_verdict o.job (named s.stage) (length s.past)) × (handed_back j r ≡ None)))
+
+  -- the laws for a list of calls, refused and stopped ones included: laws 1 to 4 of what it leaves behind, and what a next call does
   pub record Upheld (cs : List (Call C)) : Type 0 where
     -- every event in the past was taken, and the race that is named is the latest one's
-    pub lawful : Verdict k o.limits (past_of cs) (race_named cs)
+    pub lawful : Outcome k o.limits (past_of cs) (race_named cs)
+    -- law 1
     pub clean_settled : (race_named cs ≡ None) ↔ Settled k (past_of cs)
+    -- law 2
     pub race_real : (r : Race C) → race_named cs ≡ Some r → Real k o.limits (past_of cs) r
+    -- law 3, on an emptied run with the same job and limits
     pub any_order : race_named cs ≡ None → (p : List ℕ) → Legal (past_of cs) p
         → (length (arranged (past_of cs) p) ≡ length (past_of cs))
         × (replies (all_fed (arranged (past_of cs) p)) ≡ each_took (arranged (past_of cs) p))
         × (after_calls (all_fed (arranged (past_of cs) p)) ≡ record { past = arranged (past_of cs) p; stage = Feeding })
+    -- law 4
     pub first_named : FirstConflict k (past_of cs) (race_named cs)
+    -- the next call is answered by the stage
+    pub event_answer : (e : Event C) → EventAnswered (after_calls cs) e (answer_to (after_calls cs) (Feed e))
+    pub seal_answer : (j : ℕ) → SealAnswered (after_calls cs) j (answer_to (after_calls cs) (Seal j))
     -- a call that is turned away changes nothing, and its place is the count of events taken
     pub unchanged : (c : Call C) (n p : ℕ) → answer_to (after_calls cs) c ≡ turned_away n p
         → (after_calls (c ∷ cs) ≡ after_calls cs) × (p ≡ length (past_of cs))
@@ -128,5 +152,3 @@ module _ {C : Type 0} (k : CellKind C) (o : Opening) where
     pub sealed_tells : (j i n : ℕ) (m : Option (Race C)) → answer_to (after_calls cs) (Seal j) ≡ gave_verdict i m n
         → (after_calls (Seal j ∷ cs) ≡ record { past = past_of cs; stage = Sealed (race_named cs) })
         × (j ≡ o.job) × (i ≡ o.job) × (m ≡ race_named cs) × (n ≡ length (past_of cs))
-    -- a seal gives the verdict and spends its token, or is turned away by 11 or 12 and hands it back
-    pub token_spent : (j : ℕ) → Sealing (race_named cs) (length (past_of cs)) j (answer_to (after_calls cs) (Seal j))

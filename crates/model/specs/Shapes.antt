@@ -1,9 +1,9 @@
 -- The shape of a reached order: what holds of the labels of its steps, its finishes and its running tasks from call to call.
--- No law rests on these definitions. They stand here for an implementation of the tree, which keeps the same shape.
+-- The proof of law 6 goes by it, and so can an implementation of the tree. No other law is stated in these words.
 use Rattle.std.specs.Prelude.{◌≡◌, ℕ, suc, ◌<◌, not, T, ◌⊎◌, List, [], ◌∷◌, ◌++◌, ◌≢◌}
-use Rattle.model.specs.Orders.{Order, Task, at_or_before}
+use Rattle.model.specs.Orders.{Order, Task, at_or_after}
 use Rattle.model.specs.Labels.{Label, odd, Under, Low}
-use Rattle.model.specs.Trees.{Labelled}
+use Rattle.model.specs.Trees.{Tree, Labelled}
 
 -- f is one of a task's finishes
 abbrev pub In : ℕ → List ℕ → Type 0
@@ -54,8 +54,8 @@ pub record Runner (m : Order) (lab node : ℕ → Label) (by owner : ℕ → ℕ
 -- a running task of f has come after it, or a task that ended in f has, or it lies in a finish inside f
 abbrev pub Covered : Order → (ℕ → Label) → (ℕ → Label) → ℕ → ℕ → Type 0
 Covered m lab node f x =
-    ((u : ℕ) × T (m.task u).running × In f (m.task u).finishes × T (at_or_before m (m.task u).current x))
-    ⊎ (((l : ℕ) × T (m.last f l) × T (at_or_before m l x))
+    ((u : ℕ) × T (m.task u).running × In f (m.task u).finishes × T (at_or_after m (m.task u).current x))
+    ⊎ (((l : ℕ) × T (m.last f l) × T (at_or_after m l x))
     ⊎ ((u : ℕ) × (g : ℕ) × T (m.task u).running × Above g f (m.task u).finishes × Under (node g) (lab x)))
 
 -- the shape of an order
@@ -73,3 +73,9 @@ pub record Shape (m : Order) (lab node : ℕ → Label) (by owner : ℕ → ℕ)
   -- whatever lies in a finish that a running task has open is still awaited there
   pub covered : (v f x : ℕ) → T (m.task v).running → In f (m.task v).finishes → x < m.steps → Under (node f) (lab x)
       → Covered m lab node f x
+
+-- an order has a tree in its shape, with some task for each step and for each finish
+pub record Shaped (m : Order) (w : Tree) : Type 0 where
+  pub by : ℕ → ℕ
+  pub owner : ℕ → ℕ
+  pub shape : Shape m w.step w.finish by owner

@@ -1,17 +1,14 @@
 -- The program structure tree as a keeper's calls grow it, and what its labels say of the order.
-use Rattle.std.specs.Prelude.{◌≡◌, ℕ, ◌+◌, ◌<◌, cond, [], ◌∷◌, ◌==◌}
-use Rattle.model.specs.Lists.{head_or}
-use Rattle.model.specs.Orders.{Order, emptied, spawned, opened, closed, done}
+use Rattle.std.specs.Prelude.{◌≡◌, ℕ, ◌+◌, ◌<◌, [], ◌∷◌}
+use Rattle.model.specs.Lists.{head_or, put}
+use Rattle.model.specs.Orders.{Order}
+use Rattle.model.specs.Reached.{Reached, start, by_spawn, by_open, by_close, by_end}
 use Rattle.model.specs.Labels.{Label, left, over, Under, child_of, next_of, inner_of}
 
 -- the label of each step, and of each finish's node
 pub record Tree : Type 0 where
   pub step : ℕ → Label
   pub finish : ℕ → Label
-
--- a function, changed at one place
-abbrev pub put : {A : Type 0} → (ℕ → A) → ℕ → A → ℕ → A
-put f k v x = cond (x == k) v (f x)
 
 -- step 0 under the root
 abbrev pub planted : Tree
@@ -33,23 +30,17 @@ open_tree m t w =
 abbrev pub close_tree : Order → ℕ → Tree → Tree
 close_tree m t w = record w { step = put w.step m.steps (next_of (w.finish (head_or (m.task t).finishes 0))) }
 
--- the trees that the calls grow, each beside the order that they reach
-pub data Grown (limit : ℕ) : Order → Tree → Type 0 where
-  start : Grown limit (emptied limit) planted
-  by_spawn : (m : Order) (w : Tree) (t : ℕ) → Grown limit m w → Grown limit (spawned m t) (spawn_tree m t w)
-  by_open : (m : Order) (w : Tree) (t : ℕ) → Grown limit m w → Grown limit (opened m t) (open_tree m t w)
-  by_close : (m : Order) (w : Tree) (t : ℕ) → Grown limit m w → Grown limit (closed m t) (close_tree m t w)
-  by_end : (m : Order) (w : Tree) (t : ℕ) → Grown limit m w → Grown limit (done m t) w
+-- the tree that the calls grow which lead to an order
+abbrev pub tree_of : {limit : ℕ} {m : Order} → Reached limit m → Tree
+tree_of start = planted
+tree_of (by_spawn m t r run) = spawn_tree m t (tree_of r)
+tree_of (by_open m t r run) = open_tree m t (tree_of r)
+tree_of (by_close m t f g fs r run own none) = close_tree m t (tree_of r)
+tree_of (by_end m t f r run own) = tree_of r
 
--- the labels tell what the order says of its steps; steps are leaves, each with a label of its own
+-- labels that tell what an order says of its steps; the steps are leaves, each with a label of its own
 pub record Labelled (m : Order) (lab : ℕ → Label) : Type 0 where
   pub before_is : (a b : ℕ) → a < m.steps → b < m.steps → m.before a b ≡ over (lab a) (lab b)
   pub earlier_is : (a b : ℕ) → a < m.steps → b < m.steps → m.earlier a b ≡ left (lab a) (lab b)
   pub apart : (a b : ℕ) → a < m.steps → b < m.steps → lab a ≡ lab b → a ≡ b
   pub leaf : (a b : ℕ) → a < m.steps → b < m.steps → Under (lab a) (lab b) → a ≡ b
-
--- an order that has its program structure tree
-pub record InTree (limit : ℕ) (m : Order) : Type 0 where
-  pub tree : Tree
-  pub grown : Grown limit m tree
-  pub labelled : Labelled m tree.step

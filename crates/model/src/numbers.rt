@@ -1,7 +1,7 @@
 // What an event says by itself: the task that does it, and whether its numbers are in range.
 ghost use Rattle.std.specs.Prelude.{◌≡◌};
 ghost use Rattle.model.specs.Past.{actor};
-ghost use Rattle.model.specs.Cells.{CellKind};
+ghost use Rattle.model.specs.Accesses.{CellKind};
 ghost use Rattle.model.specs.Rules.{within_max, numbers_fit};
 ghost use Rattle.model.specs.Mailboxes.{mailbox_cells};
 

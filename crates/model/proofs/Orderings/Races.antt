@@ -8,12 +8,13 @@ use Rattle.model.specs.declared.RaceKind.{RaceKind}
 use Rattle.model.specs.declared.RaceKind.TheVariants.{WriteRead, WriteWrite, ReadWrite}
 use Rattle.model.specs.declared.Race.{Race}
 use Rattle.model.specs.Lists.{any, mem, keep, is_empty}
-use Rattle.model.specs.Past.{Past, actor, own, innermost, at, behind, made, spawned_tasks, ended, lived_in}
+use Rattle.model.specs.Past.{Past, own, innermost, at, behind, made, spawned_tasks, ended, lived_in}
 use Rattle.model.specs.Before.{before, serial}
-use Rattle.model.specs.Cells.{CellKind, reads, writes, accesses, cell_held, cells_held}
+use Rattle.model.specs.Accesses.{CellKind, reads, writes, accesses}
+use Rattle.model.specs.Cells.{cell_held, cells_held}
 use Rattle.model.specs.Cells.{last_write, reads_since, unordered_reads, left_read, right_read}
 use Rattle.model.specs.Rules.{Limits, Answer, taken, refused, refusal, judge, by_kind, race_of, race_with}
-use Rattle.model.specs.Rules.{numbers_fit, steps_held}
+use Rattle.model.specs.Rules.{first_tests, steps_held}
 use Rattle.model.specs.Legal.{Beside}
 use Rattle.model.specs.Laws.{RacedBy, of_kind}
 use Rattle.model.proofs.Shelf.Tests.{tried, cond_no}
@@ -46,11 +47,6 @@ module _ {C : Type 0} (k : CellKind C) where
   passes [] a m e = (tt, e)
   passes (p ∷ ps) a m e = grind (arith, passes ps)
 
-  -- the tests that `judge` begins with
-  abbrev pub first_tests : Limits → Past C → Event C → List (Bool × ℕ)
-  first_tests l h e =
-      (leb l.events (length h), 10) ∷ (not (numbers_fit k e), 6) ∷ (not (eqb (actor e) 0 || made h (actor e)), 7) ∷ []
-
   -- the tests of each kind of event, of an access where it makes no race
   abbrev pub kind_tests : Limits → Past C → Event C → List (Bool × ℕ)
   kind_tests l h (Spawn t u) =
@@ -71,19 +67,19 @@ module _ {C : Type 0} (k : CellKind C) where
 
   -- so it is taken with no race exactly where it makes none and no test passes
   pub clean_passes : (l : Limits) (h : Past C) (e : Event C)
-      → judge k l h e ≡ taken None → Pass (first_tests l h e) × Pass (kind_tests l h e)
+      → judge k l h e ≡ taken None → Pass (first_tests k l h e) × Pass (kind_tests l h e)
   clean_passes l h e q =
-      let r = passes (first_tests l h e) (by_kind k l h e) None q in
+      let r = passes (first_tests k l h e) (by_kind k l h e) None q in
       let free = by_kind_of l h e None r.1 in
       grind arith
 
   pub passes_clean : (l : Limits) (h : Past C) (e : Event C)
-      → race_of k h e ≡ None → Pass (first_tests l h e) → Pass (kind_tests l h e) → judge k l h e ≡ taken None
+      → race_of k h e ≡ None → Pass (first_tests k l h e) → Pass (kind_tests l h e) → judge k l h e ≡ taken None
   passes_clean l h e free p q = grind arith
 
   -- a taken event is answered with the race that it makes, or with none
   pub taken_race : (l : Limits) (h : Past C) (e : Event C) (m : Option (Race C)) → judge k l h e ≡ taken m → race_of k h e ≡ m
-  taken_race l h e m q = by_kind_of l h e m (passes (first_tests l h e) (by_kind k l h e) m q).1
+  taken_race l h e m q = by_kind_of l h e m (passes (first_tests k l h e) (by_kind k l h e) m q).1
 
   -- the place i of h has an event that f says touches c; the marks stand at such
   abbrev pub Stands : (C → Event C → Bool) → Past C → C → ℕ → Type 0
@@ -147,7 +143,7 @@ module _ {C : Type 0} (k : CellKind C) where
 
   -- the place i of h has an access of c that makes a race of this kind with e
   abbrev Met : RaceKind → Past C → Event C → C → ℕ → Type 0
-  Met kind h e c i = (d : Event C) × (at h i ≡ Some d) × T (of_kind k kind c d e)
+  Met kind h e c i = Stands (λ x d. of_kind k kind x d e) h c i
 
   race_with_of : (kind : RaceKind) (h : Past C) (e : Event C) (c : C) (m : Option ℕ) (other : Option (Race C)) (r : Race C)
       → ((i : ℕ) → m ≡ Some i → Met kind h e c i) → (other ≡ Some r → Clash h e r)

@@ -7,7 +7,7 @@ use Rattle.model.specs.declared.Race.{Race}
 use Rattle.model.specs.Lists.{mem, keep, some_or}
 use Rattle.model.specs.Past.{Past, at}
 use Rattle.model.specs.Before.{before}
-use Rattle.model.specs.Cells.{CellKind, reads, writes, accesses, conflicts}
+use Rattle.model.specs.Accesses.{CellKind, reads, writes, accesses, conflicts}
 use Rattle.model.specs.Rules.{Limits}
 use Rattle.model.specs.Legal.{ahead, part_ahead, Legal, Settled}
 use Rattle.model.specs.Laws.{Clean, RacedBy}

@@ -1,20 +1,21 @@
 -- The parts of a clean past, as a run needs them; and the marks of its cells, kept up to date.
 use Rattle.std.proofs.Math.Bool.{or-false}
 use Rattle.std.proofs.lemmas.Bool.Decides.{nat_tests}
-use Rattle.std.proofs.Common.{◌≡◌, ℕ, ◌<◌, T, leb, ◌∷◌, length, None, Option, sym, refl, ap, ◌∙◌, subst, inl, inr, arith}
+use Rattle.std.proofs.Common.{◌≡◌, ℕ, ◌<◌, T, leb, ◌∷◌, length, Some, None, Option, sym, refl, ap, ◌∙◌, subst, inl, inr, arith, add-one}
 use Rattle.model.specs.declared.Event.{Event}
 use Rattle.model.specs.declared.Event.TheVariants.{Read, Write}
 use Rattle.model.specs.declared.Race.{Race}
 use Rattle.model.specs.Past.{Past, actor}
-use Rattle.model.specs.Cells.{CellKind}
-use Rattle.model.specs.Rules.{Limits, taken, judge}
+use Rattle.model.specs.Accesses.{CellKind}
+use Rattle.model.specs.Rules.{Limits, taken, judge, race_of}
 use Rattle.model.specs.Laws.{Clean}
 use Rattle.model.specs.Orders.{Order}
 use Rattle.model.specs.Link.{order_of, step_now}
-use Rattle.model.specs.Parts.{history_of, history_with, after_read, after_write, ByParts, JudgedByParts, MarksKept}
+use Rattle.model.specs.Parts.{history_of, history_with, after_read, after_write, parts_of, counted, ByParts, JudgedByParts, MarksKept}
 use Rattle.model.proofs.Shelf.Tests.{tried, cond_no}
-use Rattle.model.proofs.Orderings.Races.{passed}
-use Rattle.model.proofs.Readers.Sound.{Sound, clean_sound, taken_good}
+use Rattle.model.proofs.Orderings.Races.{passed, taken_race}
+use Rattle.model.proofs.Linking.Sound.{Sound, clean_sound, taken_good}
+use Rattle.model.proofs.Parting.Words.{parts_ext}
 use Rattle.model.proofs.Parting.Judged.{judged_is}
 use Rattle.model.proofs.Parting.Held.{number_held}
 use Rattle.model.proofs.Parting.Moved.{parts_stepped}
@@ -26,11 +27,19 @@ module _ {C : Type 0} (k : CellKind C) (l : Limits) where
   counts : (h : Past C) (e : Event C) (r : Option (Race C)) → judge k l h e ≡ taken r → length h < l.events
   counts h e r q = let f = (passed (leb l.events (length h)) 10 _ r q).0 in grind arith
 
+  -- only a read or a write makes a race, and these move neither the order nor the names
+  raced : (h : Past C) (e : Event C) (r : Race C) → race_of k h e ≡ Some r
+      → record (parts_of k l (e ∷ h)) { cells = (parts_of k l h).cells } ≡ counted (parts_of k l h)
+  raced h (Read t c) r q = parts_ext _ _ refl refl refl (sym (add-one (length h)))
+  raced h (Write t c) r q = parts_ext _ _ refl refl refl (sym (add-one (length h)))
+  raced h e r q = cc
+
   by_parts : (h : Past C) → Clean k l h → ByParts k l h
   by_parts h c =
       record {
         judged_is = λ e. judged_is k l h e c;
-        stepped_is = λ e q. parts_stepped k l h e c q;
+        stepped_is = λ e r q. parts_stepped k l h e r c q;
+        raced_is = λ e r q. raced h e r (taken_race k l h e (Some r) q);
         counted_is = counts h;
         number_is = λ t n q. (number_held k l h c t n q).0;
         room = room k l h c;

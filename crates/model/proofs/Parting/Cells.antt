@@ -8,21 +8,22 @@ use Rattle.model.specs.declared.Race.{Race}
 use Rattle.model.specs.declared.History.{History}
 use Rattle.model.specs.Past.{Past, at, actor}
 use Rattle.model.specs.Before.{before}
-use Rattle.model.specs.Cells.{CellKind, reads, writes, accesses, last_write, left_read, right_read, cell_held, is_access}
+use Rattle.model.specs.Accesses.{CellKind, reads, writes, accesses, is_access}
+use Rattle.model.specs.Cells.{last_write, left_read, right_read, cell_held}
 use Rattle.model.specs.Rules.{Limits, race_with, race_of}
 use Rattle.model.specs.Orders.{Order}
 use Rattle.model.specs.Link.{order_of, number, step_at}
-use Rattle.model.specs.Parts.{blank, parts_of, mark_at, history_of, history_in, in_order, race_on, read_race, write_race}
+use Rattle.model.specs.Parts.{blank, parts_of, mark_at, history_of, history_in, after_mark, race_on, read_race, write_race}
 use Rattle.model.proofs.Shelf.Tests.{T-ext}
 use Rattle.model.proofs.Shelf.Places.{at_lt, at_any}
-use Rattle.model.proofs.Readers.Sound.{Known, Sound}
-use Rattle.model.proofs.Readers.Labels.{now, current_is, is_upto}
-use Rattle.model.proofs.Readers.Next.{step_done_on}
-use Rattle.model.proofs.Readers.Marks.{writes_access, reads_access, access_upto, upto_access}
+use Rattle.model.proofs.Linking.Sound.{Known, Sound}
+use Rattle.model.proofs.Linking.PlaceSteps.{now, current_is, is_upto}
+use Rattle.model.proofs.Linking.Next.{step_done_on}
+use Rattle.model.proofs.Linking.Marks.{writes_access, reads_access, access_upto, upto_access}
 use Rattle.model.proofs.Orderings.Races.{Stands, last_write_of, left_read_of, right_read_of}
 use Rattle.model.proofs.Trees.Reached.{reached_laws}
 use Rattle.model.proofs.Parting.Words.{history_ext}
-use Rattle.model.proofs.Readers.DoneOn.{done_on}
+use Rattle.model.proofs.Linking.DoneOn.{done_on}
 
 module _ {C : Type 0} (k : CellKind C) where
   -- a place of an access that a mark can stand at
@@ -70,7 +71,7 @@ module _ {C : Type 0} (k : CellKind C) where
     abbrev cur : ℕ
     cur = (mo.task (number h (actor e))).current
 
-    in_order_is : (i : ℕ) → Accessed h i → in_order mo cur (record { step = step_at h i; place = i }) ≡ before (e ∷ h) i (length h)
+    in_order_is : (i : ℕ) → Accessed h i → after_mark mo cur (record { step = step_at h i; place = i }) ≡ before (e ∷ h) i (length h)
     in_order_is i r =
         ap (λ x. is_upto k lim h x cur) (step_done_on k lim h s i (at_lt h i r.0 r.1))
         ∙ (ap (is_upto k lim h (done_on k lim h i)) (current_is k lim h s (actor e) q)

@@ -1,20 +1,20 @@
 -- What the parts hold: steps and places in their histories, numbers in their names, and how many tasks and finishes there are.
 use Rattle.std.proofs.lemmas.Option.{none-some}
 use Rattle.std.proofs.lemmas.Option.{same_Some}
-use Rattle.std.proofs.Common.{◌≡◌, ℕ, ◌+◌, ◌<◌, ◌≤◌, Bool, true, false, cond, ◌||◌, eqb, List, [], ◌∷◌, length, Some, None, Option, sym, refl, ap, ◌∙◌, subst, inl, inr, arith}
-use Rattle.model.specs.declared.Event.TheVariants.{Spawn}
+use Rattle.std.proofs.Common.{◌≡◌, ℕ, ◌+◌, ◌<◌, Bool, true, false, cond, ◌||◌, eqb, List, ◌∷◌, length, Some, None, Option, sym, refl, ◌∙◌, subst, inl, inr, arith}
 use Rattle.model.specs.declared.History.{History}
 use Rattle.model.specs.Lists.{some_or}
-use Rattle.model.specs.Past.{Past, child, made, spawned_tasks}
-use Rattle.model.specs.Cells.{CellKind, cell_held, last_write, left_read, right_read}
+use Rattle.model.specs.Past.{Past, made}
+use Rattle.model.specs.Accesses.{CellKind}
+use Rattle.model.specs.Cells.{cell_held, last_write, left_read, right_read}
 use Rattle.model.specs.Rules.{Limits}
 use Rattle.model.specs.Laws.{Clean}
-use Rattle.model.specs.Link.{order_of, number, spawns}
+use Rattle.model.specs.Link.{order_of, number}
 use Rattle.model.specs.Parts.{parts_of, task_number, mark_at, history_of, MarkHeld, HistoryHeld}
 use Rattle.model.proofs.Shelf.Tests.{tried}
 use Rattle.model.proofs.Shelf.Places.{at_lt}
-use Rattle.model.proofs.Readers.Sound.{Sound, clean_sound}
-use Rattle.model.proofs.Readers.Keeper.{number_le, tasks_is}
+use Rattle.model.proofs.Linking.Sound.{Sound, clean_sound}
+use Rattle.model.proofs.Linking.Keeper.{number_le, tasks_is}
 use Rattle.model.proofs.Parting.Tasks.{task_known, task_unknown}
 use Rattle.model.proofs.Parting.Cells.{Accessed, write_place, left_place, right_place}
 use Rattle.model.proofs.Parting.Marks.{step_held, cur_held}
@@ -64,18 +64,6 @@ module _ {C : Type 0} (k : CellKind C) where
         | inr z ↦ absurd (none-some _ (sym (task_unknown k l h t z) ∙ q))
       ]
 
-  spawns_count : (h : Past C) → spawns h ≡ length (spawned_tasks h)
-  spawns_count [] = refl
-  spawns_count (e ∷ h) = one_more_or_none (spawns h) (spawned_tasks h) (child e) (spawns_count h)
-
-  -- the order has one task more than there are names, and no more finishes than steps
+  -- the order has one task more than there are names
   pub tasks_count : (l : Limits) (h : Past C) → (parts_of k l h).order.tasks ≡ (parts_of k l h).names.count + 1
-  tasks_count l h = tasks_is k l.steps h ∙ ap (λ n. n + 1) (spawns_count h)
-
-  finishes_held : (lim : ℕ) (h : Past C) → (order_of lim h).finishes ≤ (order_of lim h).steps
-  finishes_held lim [] = omega arith
-  finishes_held lim (Spawn a u ∷ h) = let p = finishes_held lim h in omega arith
-  finishes_held lim (e ∷ h) = grind (arith, finishes_held lim h)
-
-  pub finishes_within : (l : Limits) (h : Past C) → (parts_of k l h).order.finishes ≤ (parts_of k l h).order.steps
-  finishes_within l h = finishes_held l.steps h
+  tasks_count l h = tasks_is k l.steps h

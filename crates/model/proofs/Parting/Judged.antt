@@ -5,13 +5,13 @@ use Rattle.model.specs.declared.Event.{Event}
 use Rattle.model.specs.declared.Event.TheVariants.{Spawn}
 use Rattle.model.specs.declared.Race.{Race}
 use Rattle.model.specs.Past.{Past, actor}
-use Rattle.model.specs.Cells.{CellKind}
+use Rattle.model.specs.Accesses.{CellKind}
 use Rattle.model.specs.Rules.{Limits, judge, by_kind, accessed}
 use Rattle.model.specs.Laws.{Clean}
 use Rattle.model.specs.Orders.{gone}
 use Rattle.model.specs.Link.{number}
 use Rattle.model.specs.Parts.{parts_of, judged, judged_kind, judged_access}
-use Rattle.model.proofs.Readers.Sound.{Known, Sound, clean_sound}
+use Rattle.model.proofs.Linking.Sound.{Known, Sound, clean_sound}
 use Rattle.model.proofs.Parting.Tasks.{task_known, task_unknown, few_is, gone_is, has_own_is, lived_is}
 use Rattle.model.proofs.Parting.Cells.{read_race_is, write_race_is}
 

@@ -6,22 +6,23 @@ use Rattle.model.specs.declared.Event.{Event}
 use Rattle.model.specs.declared.Event.TheVariants.{Read, Write}
 use Rattle.model.specs.declared.Mark.{Mark}
 use Rattle.model.specs.Past.{Past, actor}
-use Rattle.model.specs.Cells.{CellKind, reads, writes, accesses, last_write, left_read, right_read}
-use Rattle.model.specs.Orders.{Order, at_or_before}
+use Rattle.model.specs.Accesses.{CellKind, reads, writes, accesses}
+use Rattle.model.specs.Cells.{last_write, left_read, right_read}
+use Rattle.model.specs.Orders.{Order, at_or_after}
 use Rattle.model.specs.Link.{order_of, number, step_now, step_at}
 use Rattle.model.specs.Parts.{mark_at, history_of, new_left, new_right, after_read, after_write}
 use Rattle.model.proofs.Shelf.Tests.{or_l, or_r, cond_yes, cond_no}
 use Rattle.model.proofs.Shelf.Places.{at_lt}
-use Rattle.model.proofs.Readers.Sound.{Known, Sound}
-use Rattle.model.proofs.Readers.Labels.{current_is, now_lt}
-use Rattle.model.proofs.Readers.Steps.{law}
-use Rattle.model.proofs.Readers.Access.{limit_free}
-use Rattle.model.proofs.Readers.Next.{step_done_on, next_left, next_right, left_other, right_other}
-use Rattle.model.proofs.Readers.Next.{left_after_read, right_after_read, left_after_write, right_after_write}
+use Rattle.model.proofs.Linking.Sound.{Known, Sound}
+use Rattle.model.proofs.Linking.PlaceSteps.{current_is, now_lt}
+use Rattle.model.proofs.Linking.Steps.{law}
+use Rattle.model.proofs.Linking.Access.{limit_free}
+use Rattle.model.proofs.Linking.Next.{step_done_on, next_left, next_right, left_other, right_other}
+use Rattle.model.proofs.Linking.Next.{left_after_read, right_after_read, left_after_write, right_after_write}
 use Rattle.model.proofs.Trees.Reached.{reached_laws}
 use Rattle.model.proofs.Parting.Words.{history_ext, mark_step}
 use Rattle.model.proofs.Parting.Cells.{Accessed, write_place, left_place, right_place}
-use Rattle.model.proofs.Readers.DoneOn.{done_on_lt}
+use Rattle.model.proofs.Linking.DoneOn.{done_on_lt}
 
 -- the new mark or the old one, by the two forms of the test
 pick : {A : Type 0} (b w v : Bool) (new old : A)
@@ -79,7 +80,7 @@ module _ {C : Type 0} (k : CellKind C) (lim : ℕ) where
     one_way a b p q = (law k lim reached_laws h s).earlier_irrefl a ((law k lim reached_laws h s).earlier_trans a b a p q)
 
     some_way : (a b : ℕ) → a < (mo h).steps → b < (mo h).steps
-        → (T (at_or_before (mo h) b a) → ⊥) → T ((mo h).earlier a b) ⊎ T ((mo h).earlier b a)
+        → (T (at_or_after (mo h) b a) → ⊥) → T ((mo h).earlier a b) ⊎ T ((mo h).earlier b a)
     some_way a b p q n = (law k lim reached_laws h s).earlier_total a b p q (λ z. n (or_l (eqb a b) ((mo h).before a b) (yes_eqb z)))
 
   swap : {A B : Type 0} → A ⊎ B → B ⊎ A
@@ -105,15 +106,15 @@ module _ {C : Type 0} (k : CellKind C) (lim : ℕ) where
 
     -- where a mark at a is to stand for a reader on the step y: at a, if the step of a is not up to y and w says that it stays
     abbrev stood : ℕ → (ℕ → Bool) → ℕ → Option ℕ
-    stood a w y = cond (at_or_before m y (step_at h a)) (Some (length h)) (cond (w y) (Some a) (Some (length h)))
+    stood a w y = cond (at_or_after m y (step_at h a)) (Some (length h)) (cond (w y) (Some a) (Some (length h)))
 
     -- the new mark or the old one, where w says that a stays and v that it goes
     go : (a : ℕ) (w v : ℕ → Bool) → ((i : ℕ) → Some a ≡ Some i → Accessed k h i) → (T (w here) → T (v here) → ⊥)
-        → ((T (at_or_before m here (step_at h a)) → ⊥) → T (w here) ⊎ T (v here))
-        → mark_at (Read t c ∷ h) (stood a w (step_now h t)) ≡ Some (cond (at_or_before m here (step_at h a) || v here) new (old a))
+        → ((T (at_or_after m here (step_at h a)) → ⊥) → T (w here) ⊎ T (v here))
+        → mark_at (Read t c ∷ h) (stood a w (step_now h t)) ≡ Some (cond (at_or_after m here (step_at h a) || v here) new (old a))
     go a w v f p q = grind (arith, nat_tests, step_now_cur, pick, pushed, new, old, mark_top, mark_old)
 
-    ways : (a : ℕ) → ((i : ℕ) → Some a ≡ Some i → Accessed k h i) → (T (at_or_before m here (step_at h a)) → ⊥)
+    ways : (a : ℕ) → ((i : ℕ) → Some a ≡ Some i → Accessed k h i) → (T (at_or_after m here (step_at h a)) → ⊥)
         → T (m.earlier (step_at h a) here) ⊎ T (m.earlier here (step_at h a))
     ways a f n = grind (arith, nat_tests, some_way, step_held, at_lt, cur_held)
 

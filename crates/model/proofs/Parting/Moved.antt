@@ -1,17 +1,17 @@
 -- How a taken event moves the parts.
 use Rattle.std.proofs.Math.Bool.{or-false}
 use Rattle.std.proofs.lemmas.Bool.Decides.{nat_tests}
-use Rattle.std.proofs.Common.{◌≡◌, ◌∷◌, length, Some, None, Option, sym, refl, ap, ◌∙◌, arith, add-one}
+use Rattle.std.proofs.Common.{◌≡◌, ◌∷◌, length, Some, Option, sym, refl, ap, ◌∙◌, arith, add-one}
 use Rattle.model.specs.declared.Event.{Event}
 use Rattle.model.specs.declared.Event.TheVariants.{Spawn, Read, Write}
 use Rattle.model.specs.declared.Race.{Race}
 use Rattle.model.specs.Past.{Past, actor}
-use Rattle.model.specs.Cells.{CellKind}
+use Rattle.model.specs.Accesses.{CellKind}
 use Rattle.model.specs.Rules.{Limits, taken, judge}
 use Rattle.model.specs.Laws.{Clean}
 use Rattle.model.specs.Link.{order_of, number}
 use Rattle.model.specs.Parts.{parts_of, task_number, history_in, after_read, after_write, moved_parts, stepped}
-use Rattle.model.proofs.Readers.Sound.{Sound, taken_good, clean_sound}
+use Rattle.model.proofs.Linking.Sound.{Sound, taken_good, clean_sound}
 use Rattle.model.proofs.Parting.Words.{parts_ext}
 use Rattle.model.proofs.Parting.Tasks.{task_known}
 use Rattle.model.proofs.Parting.Cells.{history_is}
@@ -47,6 +47,6 @@ module _ {C : Type 0} (k : CellKind C) where
       → task_number (parts_of k l h) (actor e) ≡ Some (number h (actor e))
   actor_number l h e r c q = task_known k l h (clean_sound k l h c) (actor e) (taken_good k l h e r q).is_known
 
-  pub parts_stepped : (l : Limits) (h : Past C) (e : Event C) → Clean k l h → judge k l h e ≡ taken None
+  pub parts_stepped : (l : Limits) (h : Past C) (e : Event C) (r : Option (Race C)) → Clean k l h → judge k l h e ≡ taken r
       → parts_of k l (e ∷ h) ≡ stepped k (parts_of k l h) e
-  parts_stepped l h e c q = grind (arith, nat_tests, parts_taken, actor_number)
+  parts_stepped l h e r c q = grind (arith, nat_tests, parts_taken, actor_number)

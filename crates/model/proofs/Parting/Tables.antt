@@ -6,13 +6,14 @@ use Rattle.model.specs.declared.Event.TheVariants.{Spawn}
 use Rattle.model.specs.declared.History.{History}
 use Rattle.model.specs.Lists.{some_or}
 use Rattle.model.specs.Past.{Past, made}
-use Rattle.model.specs.Cells.{CellKind, accesses, cell_of, cell_held, cells_held}
+use Rattle.model.specs.Accesses.{CellKind, accesses, cell_of}
+use Rattle.model.specs.Cells.{cell_held, cells_held}
 use Rattle.model.specs.Rules.{Limits}
 use Rattle.model.specs.Link.{order_of}
 use Rattle.model.specs.Parts.{parts_of, history_of, with_key}
 use Rattle.model.proofs.Shelf.Tests.{or_l, or_r, tried, is_false, cond_yes, cond_no, same_sym}
-use Rattle.model.proofs.Readers.Sound.{Known, Sound}
-use Rattle.model.proofs.Readers.Keeper.{tasks_is}
+use Rattle.model.proofs.Linking.Sound.{Known, Sound}
+use Rattle.model.proofs.Linking.Keeper.{tasks_is}
 use Rattle.model.proofs.Parting.Words.{keyed_ext}
 use Rattle.model.proofs.Parting.Marks.{history_other}
 

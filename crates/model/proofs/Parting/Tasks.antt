@@ -3,19 +3,19 @@ use Rattle.std.proofs.lemmas.Bool.Decides.{nat_tests}
 use Rattle.std.proofs.Common.{◌≡◌, ℕ, ◌+◌, ◌<◌, not, T, ltb, List, [], ◌∷◌, ◌++◌, Some, None, refl, ap, ◌∙◌, arith}
 use Rattle.model.specs.Lists.{is_empty, head_or}
 use Rattle.model.specs.Past.{Past, own, home, innermost, ended, lived_in}
-use Rattle.model.specs.Cells.{CellKind}
+use Rattle.model.specs.Accesses.{CellKind}
 use Rattle.model.specs.Rules.{Limits, steps_held}
 use Rattle.model.specs.Orders.{Order, gone, few, has_own, lived}
 use Rattle.model.specs.Link.{order_of, number}
 use Rattle.model.specs.Parts.{parts_of, task_number}
 use Rattle.model.proofs.Shelf.Tests.{T-ext}
 use Rattle.model.proofs.Shelf.Lists.{any_below_of, any_below_in}
-use Rattle.model.proofs.Readers.Sound.{Known, HasEnded, Sound}
-use Rattle.model.proofs.Readers.Keeper.{number_le, tasks_is}
-use Rattle.model.proofs.Readers.Finishes.{finish_number, own_numbers}
-use Rattle.model.proofs.Readers.Reach.{steps_is, task_running, task_finishes, head_is, lives_of}
-use Rattle.model.proofs.Readers.Access.{limit_free}
-use Rattle.model.proofs.Readers.Linked.{lived_lives, not_lived}
+use Rattle.model.proofs.Linking.Sound.{Known, HasEnded, Sound}
+use Rattle.model.proofs.Linking.Keeper.{number_le, tasks_is}
+use Rattle.model.proofs.Linking.Finishes.{finish_number, own_numbers}
+use Rattle.model.proofs.Linking.Reach.{steps_is, task_running, task_finishes, head_is, lives_of}
+use Rattle.model.proofs.Linking.Access.{limit_free}
+use Rattle.model.proofs.Linking.Linked.{lived_lives, not_lived}
 
 module _ {C : Type 0} (k : CellKind C) where
   -- the first task is never made, so its number stays 0

@@ -8,18 +8,19 @@ use Rattle.model.specs.declared.Event.TheVariants.{Spawn, End, Open, Close, Read
 use Rattle.model.specs.Lists.{is_empty, some_or}
 use Rattle.model.specs.Past.{Past, at, behind, actor, makes, ends, own, made, spawned_tasks}
 use Rattle.model.specs.Before.{HappensBefore, before}
-use Rattle.model.specs.Cells.{CellKind, cell_held, cells_held, cell_of, accesses, conflicts}
-use Rattle.model.specs.Rules.{Limits, taken, judge, steps_held, steps_of}
+use Rattle.model.specs.Accesses.{CellKind, cell_of, accesses, conflicts}
+use Rattle.model.specs.Cells.{cell_held, cells_held}
+use Rattle.model.specs.Rules.{Limits, taken, judge, first_tests, steps_held, steps_of}
 use Rattle.model.specs.Legal.{Legal, arranged}
 use Rattle.model.specs.Laws.{Clean}
 use Rattle.model.proofs.Shelf.Tests.{or_l, cond_no}
 use Rattle.model.proofs.Shelf.Lists.{mem_swap, mem_head}
 use Rattle.model.proofs.Shelf.Places.{at_some, any_at, at_any}
 use Rattle.model.proofs.Orderings.Rows.{apart_bound}
-use Rattle.model.proofs.Orderings.Races.{Pass, first_tests, kind_tests, passes_clean}
+use Rattle.model.proofs.Orderings.Races.{Pass, kind_tests, passes_clean}
 use Rattle.model.proofs.Orderings.Settles.{Ordered, conflicts_sym}
-use Rattle.model.proofs.Readers.Sound.{Known, HasEnded, Sound, clean_sound, actor_known, end_last}
-use Rattle.model.proofs.Reorderings.Parts.{Part, part_apart, part_inside, part_of_legal, part_early}
+use Rattle.model.proofs.Linking.Sound.{Known, HasEnded, Sound, clean_sound, actor_known, end_last}
+use Rattle.model.proofs.Reorderings.Sublists.{Part, part_apart, part_inside, part_of_legal, part_early}
 use Rattle.model.proofs.Reorderings.Arranged.{arranged_cons, length_arranged, any_arranged, arranged_any}
 use Rattle.model.proofs.Reorderings.Arranged.{pos, pos_here, pos_there, pos_find}
 use Rattle.model.proofs.Reorderings.Facts.{ends_is, same_before, makes_before, one_maker, passed_at}
@@ -27,7 +28,7 @@ use Rattle.model.proofs.Reorderings.Homes.{own_part}
 use Rattle.model.proofs.Reorderings.Transfer.{transfer}
 use Rattle.model.proofs.Reorderings.Cells.{cells_cover}
 use Rattle.model.proofs.Reorderings.Counts.{steps_part, spawned_part}
-use Rattle.model.proofs.Reorderings.ByKind.{events_bound, names_bound, steps_bound, cells_bound, steps_pos}
+use Rattle.model.proofs.Reorderings.Bounds.{events_bound, names_bound, steps_bound, cells_bound, steps_pos}
 use Rattle.model.proofs.Reorderings.Finishes.{none_left}
 use Rattle.model.proofs.Reorderings.Marks.{no_race}
 

@@ -6,7 +6,7 @@ use Rattle.model.specs.Lists.{any, some_or, mem}
 use Rattle.model.specs.Past.{Past, at, behind}
 use Rattle.model.specs.Legal.{arranged, part_ahead}
 use Rattle.model.proofs.Shelf.Places.{at_old, at_some, at_case, behind_old, at_new, behind_new, any_at, at_any}
-use Rattle.model.proofs.Reorderings.Parts.{Part}
+use Rattle.model.proofs.Reorderings.Sublists.{Part}
 use Rattle.model.proofs.Orderings.Rows.{ahead_mem_l}
 use Rattle.model.proofs.Orderings.Follows.{mem_part, part_here, part_next}
 

@@ -4,7 +4,8 @@ use Rattle.std.proofs.Common.{◌≡◌, ℕ, ◌+◌, ◌<◌, ◌≤◌, Bool,
 use Rattle.model.specs.declared.Event.TheVariants.{Spawn}
 use Rattle.model.specs.Lists.{any, keep, some_or}
 use Rattle.model.specs.Past.{Past}
-use Rattle.model.specs.Cells.{CellKind, cell_of, cell_held, cells_held}
+use Rattle.model.specs.Accesses.{CellKind, cell_of}
+use Rattle.model.specs.Cells.{cell_held, cells_held}
 use Rattle.model.proofs.Shelf.Tests.{tried, or_l, or_r, cond_no}
 
 module _ {C : Type 0} (k : CellKind C) where

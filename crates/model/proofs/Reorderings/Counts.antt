@@ -8,7 +8,7 @@ use Rattle.model.specs.Rules.{steps_of, steps_held}
 use Rattle.model.specs.Legal.{arranged}
 use Rattle.model.proofs.Shelf.Lists.{below_in}
 use Rattle.model.proofs.Shelf.Places.{at_top, at_old}
-use Rattle.model.proofs.Reorderings.Parts.{Part, part_apart, part_inside}
+use Rattle.model.proofs.Reorderings.Sublists.{Part, part_apart, part_inside}
 use Rattle.model.proofs.Orderings.Rows.{sum, sum_le}
 
 sum_same : (f g : ℕ → ℕ) (n : ℕ) → ((i : ℕ) → i < n → f i ≡ g i) → sum f (below n) ≡ sum g (below n)

@@ -5,14 +5,14 @@ use Rattle.std.proofs.Common.{◌≡◌, ℕ, ◌<◌, ◌||◌, T, eqb, [], ◌
 use Rattle.model.specs.declared.Event.{Event}
 use Rattle.model.specs.declared.Event.TheVariants.{Spawn, End}
 use Rattle.model.specs.Past.{Past, at, behind, actor, makes, ends}
-use Rattle.model.specs.Before.{HappensBefore, direct, awaits, to_child}
-use Rattle.model.specs.Cells.{CellKind}
-use Rattle.model.specs.Rules.{Limits, taken, judge}
+use Rattle.model.specs.Before.{HappensBefore, direct, awaited, to_child}
+use Rattle.model.specs.Accesses.{CellKind}
+use Rattle.model.specs.Rules.{Limits, taken, judge, first_tests}
 use Rattle.model.specs.Laws.{Clean}
 use Rattle.model.proofs.Shelf.Tests.{or_l}
 use Rattle.model.proofs.Shelf.Places.{at_case}
-use Rattle.model.proofs.Orderings.Races.{Pass, first_tests, kind_tests, clean_passes}
-use Rattle.model.proofs.Readers.Sound.{Sound, child_known, stale}
+use Rattle.model.proofs.Orderings.Races.{Pass, kind_tests, clean_passes}
+use Rattle.model.proofs.Linking.Sound.{Sound, child_known, stale}
 use Rattle.model.proofs.Telling.Same.{told_before}
 
 module _ {C : Type 0} where
@@ -25,7 +25,7 @@ module _ {C : Type 0} where
   pub same_before : (h : Past C) (i j : ℕ) (d e : Event C)
       → at h i ≡ Some d → at h j ≡ Some e → i < j → actor d ≡ actor e → HappensBefore h i j
   same_before h i j d e a b lt s =
-      direct i j d e lt a b (or_l (eqb (actor d) (actor e)) (makes (actor e) d || awaits (behind h j) d e) (yes_eqb s))
+      direct i j d e lt a b (or_l (eqb (actor d) (actor e)) (makes (actor e) d || awaited (behind h j) d e) (yes_eqb s))
 
 module _ {C : Type 0} (k : CellKind C) where
   pub makes_before : (h : Past C) → Sound k h → (i j : ℕ) (d e : Event C)

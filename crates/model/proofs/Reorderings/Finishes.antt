@@ -1,4 +1,4 @@
--- A finish that a part closes has nobody left in it: whoever lived there has ended, and the close awaits that end.
+-- A finish that a part closes has nobody left in it: whoever lived there has ended, and the close awaited that end.
 use Rattle.std.proofs.Math.Facts.{and_yes}
 use Rattle.std.proofs.lemmas.Bool.Decides.{nat_tests}
 use Rattle.std.proofs.Common.{◌≡◌, ℕ, not, ◌&&◌, T, List, ◌∷◌, Some, sym, ap, ◌∙◌, arith, subst}
@@ -8,15 +8,15 @@ use Rattle.model.specs.declared.Event.TheVariants.{End, Close}
 use Rattle.model.specs.Lists.{mem}
 use Rattle.model.specs.Past.{Past, at, behind, makes, ends, home, innermost, same_finish, ended, spawned_tasks, lived_in}
 use Rattle.model.specs.Before.{to_close}
-use Rattle.model.specs.Cells.{CellKind}
+use Rattle.model.specs.Accesses.{CellKind}
 use Rattle.model.specs.Legal.{arranged}
 use Rattle.model.proofs.Shelf.Lists.{mem_swap, any_of}
 use Rattle.model.proofs.Shelf.Places.{any_at}
-use Rattle.model.proofs.Readers.Sound.{Sound, child_known, spawned_is}
-use Rattle.model.proofs.Readers.Finishes.{same_finish_eq}
+use Rattle.model.proofs.Linking.Sound.{Sound, child_known, spawned_is}
+use Rattle.model.proofs.Linking.Finishes.{same_finish_eq}
 use Rattle.model.proofs.Telling.Shut.{shut_at}
 use Rattle.model.proofs.Telling.Same.{told_before}
-use Rattle.model.proofs.Reorderings.Parts.{Part}
+use Rattle.model.proofs.Reorderings.Sublists.{Part}
 use Rattle.model.proofs.Reorderings.Arranged.{any_arranged, arranged_any}
 use Rattle.model.proofs.Reorderings.Facts.{ends_is, one_maker}
 use Rattle.model.proofs.Reorderings.Homes.{home_part, innermost_part}
@@ -34,7 +34,7 @@ module _
       let (n, f, shut) = shut_at k h so i t a in
       grind (arith, child_known)
 
-  -- and so in the part, which holds all that the close awaits
+  -- and so in the part, which holds all that the close awaited
   ended_now : (u p : ℕ) (d : Event C) → T (mem p s) → at h p ≡ Some d → T (makes u d) → home now u ≡ innermost now t → T (ended now u)
   ended_now u p d q b m e =
       let spawn_in : (x : ℕ) (c : Event C) → at h x ≡ Some c → T (makes u c) → T (mem x s) =

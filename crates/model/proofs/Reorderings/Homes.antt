@@ -7,15 +7,15 @@ use Rattle.model.specs.declared.Event.{Event}
 use Rattle.model.specs.declared.Event.TheVariants.{Spawn}
 use Rattle.model.specs.Lists.{keep, mem}
 use Rattle.model.specs.Past.{Past, at, behind, actor, makes, opens, own, own_after, home, innermost, innermost_of, outer}
-use Rattle.model.specs.Cells.{CellKind}
+use Rattle.model.specs.Accesses.{CellKind}
 use Rattle.model.specs.Legal.{arranged}
 use Rattle.model.proofs.Shelf.Tests.{tried, cond_yes}
 use Rattle.model.proofs.Shelf.Lists.{mem_head, mem_tail, mem_rest}
 use Rattle.model.proofs.Shelf.Places.{at_top, at_lt, at_some, at_case, at_grow}
 use Rattle.model.proofs.Shelf.Places.{behind_new, behind_old, length_behind, at_behind, behind_behind}
-use Rattle.model.proofs.Readers.Sound.{Sound, actor_known, child_known, stale}
-use Rattle.model.proofs.Readers.Finishes.{home_old}
-use Rattle.model.proofs.Reorderings.Parts.{Part, part_early}
+use Rattle.model.proofs.Linking.Sound.{Sound, actor_known, child_known, stale}
+use Rattle.model.proofs.Linking.Finishes.{home_old}
+use Rattle.model.proofs.Reorderings.Sublists.{Part, part_early}
 use Rattle.model.proofs.Reorderings.Arranged.{arranged_cons}
 use Rattle.model.proofs.Reorderings.Facts.{same_before, makes_before}
 

@@ -8,7 +8,8 @@ use Rattle.model.specs.declared.RaceKind.TheVariants.{WriteWrite, ReadWrite}
 use Rattle.model.specs.declared.Race.{Race}
 use Rattle.model.specs.Past.{Past, at}
 use Rattle.model.specs.Before.{before}
-use Rattle.model.specs.Cells.{CellKind, reads, writes, conflicts, last_write, left_read, right_read}
+use Rattle.model.specs.Accesses.{CellKind, reads, writes, conflicts}
+use Rattle.model.specs.Cells.{last_write, left_read, right_read}
 use Rattle.model.specs.Rules.{race_with, race_of}
 use Rattle.model.proofs.Shelf.Tests.{or_r}
 use Rattle.model.proofs.Orderings.Races.{Stands, last_write_of, left_read_of, right_read_of}

@@ -4,20 +4,20 @@ use Rattle.model.specs.declared.Event.{Event}
 use Rattle.model.specs.declared.Event.TheVariants.{Close}
 use Rattle.model.specs.Lists.{mem}
 use Rattle.model.specs.Past.{Past, at, behind, actor, makes, ends, home, same_finish}
-use Rattle.model.specs.Before.{HappensBefore, direct, through, leads, awaits}
-use Rattle.model.specs.Cells.{CellKind}
+use Rattle.model.specs.Before.{HappensBefore, direct, through, leads, awaited}
+use Rattle.model.specs.Accesses.{CellKind}
 use Rattle.model.specs.Legal.{arranged, part_ahead}
-use Rattle.model.proofs.Readers.Sound.{Sound}
+use Rattle.model.proofs.Linking.Sound.{Sound}
 use Rattle.model.proofs.Telling.Sooner.{home_then}
-use Rattle.model.proofs.Reorderings.Parts.{Part, part_closed}
+use Rattle.model.proofs.Reorderings.Sublists.{Part, part_closed}
 use Rattle.model.proofs.Reorderings.Arranged.{pos, pos_is, part_split, pos_ahead, ahead_in}
 use Rattle.model.proofs.Reorderings.Facts.{makes_before}
 use Rattle.model.proofs.Reorderings.Homes.{home_part, innermost_part}
 
 module _ {C : Type 0} (k : CellKind C) (h : Past C) (so : Sound k h) where
-  -- the next event awaits the same ends in a part
+  -- the next event awaited the same ends in a part
   awaits_same : (j : ℕ) (s : List ℕ) (e : Event C) → Part h (j ∷ s) → at h j ≡ Some e
-      → (i : ℕ) (d : Event C) → T (mem i s) → i < j → at h i ≡ Some d → awaits (behind h j) d e ≡ awaits (arranged h s) d e
+      → (i : ℕ) (d : Event C) → T (mem i s) → i < j → at h i ≡ Some d → awaited (behind h j) d e ≡ awaited (arranged h s) d e
   awaits_same j s (Close t) P b i d q lt a =
       let spawn_in : (p : ℕ) (c : Event C) → at h p ≡ Some c → T (makes (actor d) c) → T (mem p s) =
       λ p c x m. part_closed h s P.3 p i q (makes_before k h so p i c d x a m) in

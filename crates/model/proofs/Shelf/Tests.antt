@@ -2,7 +2,7 @@
 use Rattle.std.proofs.Math.Facts.{yes_eqb}
 use Rattle.std.proofs.Common.{◌≡◌, ℕ, Bool, true, false, cond, ◌||◌, T, eqb, ◌⊎◌, Some, None, Option, refl, inl, inr, eqb→eq, arith}
 use Rattle.model.specs.Lists.{some_or}
-use Rattle.model.specs.Cells.{CellKind}
+use Rattle.model.specs.Accesses.{CellKind}
 
 -- a test passes or fails
 pub tried : (b : Bool) → T b ⊎ (T b → ⊥)

@@ -5,10 +5,10 @@ use Rattle.std.proofs.Common.{◌≡◌, ℕ, ◌<◌, ◌||◌, T, eqb, Some, s
 use Rattle.model.specs.declared.Event.{Event}
 use Rattle.model.specs.declared.Event.TheVariants.{Spawn, End, Close}
 use Rattle.model.specs.Past.{Past, at, behind, actor, makes, ends, home, innermost, Finish, closes}
-use Rattle.model.specs.Before.{awaits, leads, HappensBefore, direct, through, Told, to_next, to_child, to_close, through as told_through}
-use Rattle.model.specs.Cells.{CellKind}
+use Rattle.model.specs.Before.{awaited, leads, HappensBefore, direct, through, Told, to_next, to_child, to_close, through as told_through}
+use Rattle.model.specs.Accesses.{CellKind}
 use Rattle.model.proofs.Shelf.Places.{at_lt}
-use Rattle.model.proofs.Readers.Sound.{Sound}
+use Rattle.model.proofs.Linking.Sound.{Sound}
 use Rattle.model.proofs.Telling.Chain.{chain}
 use Rattle.model.proofs.Telling.Sooner.{home_then, spawn_sooner, end_sooner}
 
@@ -20,14 +20,14 @@ module _ {C : Type 0} where
   leads_makes : (g : Past C) (d e : Event C) → T (makes (actor e) d) → T (leads g d e)
   leads_makes g d e q = grind arith
 
-  leads_awaits : (g : Past C) (d e : Event C) → T (awaits g d e) → T (leads g d e)
+  leads_awaits : (g : Past C) (d e : Event C) → T (awaited g d e) → T (leads g d e)
   leads_awaits g d e q = grind arith
 
   -- an end of a task that lives in the finish that e closes
-  awaits_by : (g : Past C) (d e : Event C) → T (ends (actor d) d) → closes g e ≡ Some (home g (actor d)) → T (awaits g d e)
+  awaits_by : (g : Past C) (d e : Event C) → T (ends (actor d) d) → closes g e ≡ Some (home g (actor d)) → T (awaited g d e)
   awaits_by g d e q c = grind arith
 
-  awaits_of : (g : Past C) (d e : Event C) → T (awaits g d e) → T (ends (actor d) d) × (closes g e ≡ Some (home g (actor d)))
+  awaits_of : (g : Past C) (d e : Event C) → T (awaited g d e) → T (ends (actor d) d) × (closes g e ≡ Some (home g (actor d)))
   awaits_of g d e q = grind arith
 
   -- an event that ends a task is an end, and one that closes a finish a close
@@ -52,7 +52,7 @@ module _ {C : Type 0} (k : CellKind C) where
       direct i j d e l a b (leads_awaits (behind h j) d e (awaits_by (behind h j) d e q (c ∙ ap Some (sym then))))
 
   awaits_told : (h : Past C) → Sound k h → (i j : ℕ) (d e : Event C) → i < j → at h i ≡ Some d → at h j ≡ Some e
-      → T (awaits (behind h j) d e) → Told h i j
+      → T (awaited (behind h j) d e) → Told h i j
   awaits_told h s i j d e l a b q =
       let (r, c) = awaits_of (behind h j) d e q in
       to_close i j d e a b r (c ∙ ap Some (home_then k h s i j d l (at_lt h j e b) a))
@@ -64,9 +64,9 @@ module _ {C : Type 0} (k : CellKind C) where
   told_before h s _ _ (told_through i j l p q) = through i j l (told_before h s i j p) (told_before h s j l q)
 
   pub before_told : (h : Past C) → Sound k h → (i j : ℕ) → HappensBefore h i j → Told h i j
-  before_told h s _ _ (direct i j d e l a b q) = elim (or_yes (eqb (actor d) (actor e)) (makes (actor e) d || awaits (behind h j) d e) q) [
+  before_told h s _ _ (direct i j d e l a b q) = elim (or_yes (eqb (actor d) (actor e)) (makes (actor e) d || awaited (behind h j) d e) q) [
     | inl x ↦ chain h i j d e l a b (eqb→eq (actor d) (actor e) x)
-    | inr x ↦ elim (or_yes (makes (actor e) d) (awaits (behind h j) d e) x) [
+    | inr x ↦ elim (or_yes (makes (actor e) d) (awaited (behind h j) d e) x) [
       | inl y ↦ to_child i j d e a b y
       | inr y ↦ awaits_told h s i j d e l a b y
     ]

@@ -7,13 +7,13 @@ use Rattle.model.specs.declared.Event.TheVariants.{Spawn, Close}
 use Rattle.model.specs.Lists.{mem, rest}
 use Rattle.model.specs.Past.{Past, at, behind}
 use Rattle.model.specs.Past.{opened_by, own, opens, home, innermost, innermost_of, lived_in}
-use Rattle.model.specs.Cells.{CellKind}
+use Rattle.model.specs.Accesses.{CellKind}
 use Rattle.model.proofs.Shelf.Tests.{cond_eq, or_l}
 use Rattle.model.proofs.Shelf.Lists.{any_in}
 use Rattle.model.proofs.Shelf.Places.{at_case, behind_old, behind_top}
-use Rattle.model.proofs.Readers.Sound.{Known, HasEnded, Good, Sound, spawned_is}
-use Rattle.model.proofs.Readers.Finishes.{opens_le, own_has}
-use Rattle.model.proofs.Readers.Reach.{full_is, home_first}
+use Rattle.model.proofs.Linking.Sound.{Known, HasEnded, Good, Sound, spawned_is}
+use Rattle.model.proofs.Linking.Finishes.{opens_le, own_has}
+use Rattle.model.proofs.Linking.Reach.{full_is, home_first}
 
 -- each number is larger than those that follow it
 abbrev Falls : List ℕ → Type 0

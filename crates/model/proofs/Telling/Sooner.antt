@@ -1,13 +1,13 @@
--- A spawn was recorded earlier than every event of the child, and a task's end earlier than the close that awaits it.
+-- A spawn was recorded earlier than every event of the child, and a task's end earlier than the close that awaited it.
 use Rattle.std.proofs.lemmas.Bool.Decides.{nat_tests}
 use Rattle.std.proofs.Common.{◌≡◌, ℕ, ◌<◌, T, [], ◌∷◌, length, Some, sym, ap, ◌∙◌, subst, inl, inr, arith}
 use Rattle.model.specs.declared.Event.{Event}
 use Rattle.model.specs.declared.Event.TheVariants.{End, Close}
 use Rattle.model.specs.Past.{Past, at, behind, actor, makes, home, innermost}
-use Rattle.model.specs.Cells.{CellKind}
+use Rattle.model.specs.Accesses.{CellKind}
 use Rattle.model.proofs.Shelf.Places.{at_case, behind_old}
-use Rattle.model.proofs.Readers.Sound.{Known, Good, Sound, actor_known, stale}
-use Rattle.model.proofs.Readers.Finishes.{home_old}
+use Rattle.model.proofs.Linking.Sound.{Known, Good, Sound, actor_known, stale}
+use Rattle.model.proofs.Linking.Finishes.{home_old}
 use Rattle.model.proofs.Telling.Shut.{shut_at}
 
 module _ {C : Type 0} (k : CellKind C) where

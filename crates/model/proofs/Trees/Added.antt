@@ -2,7 +2,7 @@
 use Rattle.std.proofs.Common.{◌≡◌, ℕ, suc, ◌+◌, ◌<◌, ◌≤◌, Bool, true, false, cond, not, T, eqb, ltb, ◌⊎◌, List, [], ◌∷◌, ◌++◌, sym, ap, ◌∙◌, subst, ap₂, inl, inr, append_assoc, arith}
 use Rattle.std.proofs.lemmas.Bool.{cases_eq, cases_order, cond-true, cond-false, eq-eqb, ne_eqb}
 use Rattle.std.proofs.lemmas.Bool.Decides.{nat_tests}
-use Rattle.model.specs.Orders.{Order, Task, at_or_before, earlier_with}
+use Rattle.model.specs.Orders.{Order, Task, at_or_after, earlier_with}
 use Rattle.model.specs.Labels.{Label, odd, left, over, Under, Low}
 use Rattle.model.specs.Trees.{Labelled}
 use Rattle.model.specs.Shapes.{In, Above, Lows, Stack, Runner, Covered, Shape}
@@ -316,7 +316,7 @@ module _ {m n : Order} {lab node : ℕ → Label} {by owner : ℕ → ℕ} (sh :
   -- what is covered: `own` is the task t after the call, and the other tasks are as they were
   module _ (own : Task) (goes : T own.running) (fresh : Fresh m new own.current) (task_own : n.task t ≡ own)
       (task_other : (u : ℕ) → T (m.task u).running → (u ≡ t → ⊥) → n.task u ≡ m.task u) where
-    at_old : (l x : ℕ) → l < m.steps → T (at_or_before m l x) → T (at_or_before n l x)
+    at_old : (l x : ℕ) → l < m.steps → T (at_or_after m l x) → T (at_or_after n l x)
     at_old l x h w = let e : n.before x l ≡ m.before x l = grown.before_old x l (inl h) in grind arith
 
     pub own_joined : (h x : ℕ) → In h own.finishes → T (joins x) → Covered n lab node h x
@@ -333,7 +333,7 @@ module _ {m n : Order} {lab node : ℕ → Label} {by owner : ℕ → ℕ} (sh :
     other_inner h x u y go d a w =
         by_inner n lab node h x u y (subst (Holds lab node h x y) (sym (task_other u go d)) (go, a, w))
 
-    joined_at : (x : ℕ) → T (at_or_before m now x) → T (joins x)
+    joined_at : (x : ℕ) → T (at_or_after m now x) → T (joins x)
     joined_at x w = grind (arith, nat_tests, now_under, place.joined_in, place.joined_before)
 
     -- an old step stays covered

@@ -4,7 +4,7 @@ use Rattle.std.proofs.Common.{◌≡◌, ℕ, suc, ◌<◌, Bool, true, false, c
 use Rattle.std.proofs.lemmas.Bool.{cases_eq}
 use Rattle.std.proofs.lemmas.Bool.Decides.{nat_tests}
 use Rattle.model.specs.Lists.{any, below, head_or, rest}
-use Rattle.model.specs.Orders.{Order, Task, at_or_before, closed}
+use Rattle.model.specs.Orders.{Order, Task, at_or_after, closed}
 use Rattle.model.specs.Labels.{Label, odd, left, over, Under, Low}
 use Rattle.model.specs.Shapes.{In, Above, Stack, Runner, Covered, Shape}
 use Rattle.model.proofs.Trees.Relabel.{above_in}
@@ -73,24 +73,24 @@ module _ (m : Order) (lab node : ℕ → Label) (by owner : ℕ → ℕ) (sh : S
 
   -- the current step or a last step of the finish is x or comes after it
   abbrev Ended : ℕ → Type 0
-  Ended x = T (at_or_before m now x) ⊎ ((l : ℕ) × T (m.last f l) × T (at_or_before m l x))
+  Ended x = T (at_or_after m now x) ⊎ ((l : ℕ) × T (m.last f l) × T (at_or_after m l x))
 
   -- what lies in the finish has ended when it closes
   all_ended : (x : ℕ) → Covered m lab node f x → Ended x
-  all_ended x (inl (u, go, i, h)) = inl (subst (λ z. T (at_or_before m (m.task z).current x)) (only_own u go i) h)
+  all_ended x (inl (u, go, i, h)) = inl (subst (λ z. T (at_or_after m (m.task z).current x)) (only_own u go i) h)
   all_ended x (inr (inl c)) = inr c
   all_ended x (inr (inr (u, h, go, a, w))) = grind (arith, nat_tests, only_own, above_in, not_inside)
 
   -- whether a last step of the finish h is x or comes after it
   abbrev awaited : ℕ → ℕ → Bool
-  awaited h x = any (λ l. m.last h l && at_or_before m l x) (below m.steps)
+  awaited h x = any (λ l. m.last h l && at_or_after m l x) (below m.steps)
 
   -- whether x is before the new step
   abbrev joined : ℕ → Bool
-  joined x = at_or_before m now x || awaited f x
+  joined x = at_or_after m now x || awaited f x
 
   before_is : (a b : ℕ) → n.before a b ≡ cond (eqb b m.steps) (joined a) (m.before a b)
-  before_is a b = ap (λ z. cond (eqb b m.steps) (at_or_before m now a || awaited (head_or z 0) a) (m.before a b)) fin
+  before_is a b = ap (λ z. cond (eqb b m.steps) (at_or_after m now a || awaited (head_or z 0) a) (m.before a b)) fin
 
   joined_ended : (a : ℕ) → T (joined a) → Ended a
   joined_ended a h = grind (arith, nat_tests, any_below_of)
@@ -98,9 +98,9 @@ module _ (m : Order) (lab node : ℕ → Label) (by owner : ℕ → ℕ) (sh : S
   ended_joined : (a : ℕ) → Ended a → T (joined a)
   ended_joined a (inl h) = grind arith
   ended_joined a (inr (l, h, i)) =
-      let both = yes_and (m.last f l) (at_or_before m l a) h i in
-      let k : T (awaited f a) = any_below_in (λ l. m.last f l && at_or_before m l a) m.steps l (sh.last_held f l h).1 both in
-      or_r (at_or_before m now a) (awaited f a) k
+      let both = yes_and (m.last f l) (at_or_after m l a) h i in
+      let k : T (awaited f a) = any_below_in (λ l. m.last f l && at_or_after m l a) m.steps l (sh.last_held f l h).1 both in
+      or_r (at_or_after m now a) (awaited f a) k
 
   ended_held : (a : ℕ) → Ended a → a < m.steps
   ended_held a (inl h) = at_held sh now a here.current_held h
@@ -124,7 +124,7 @@ module _ (m : Order) (lab node : ℕ → Label) (by owner : ℕ → ℕ) (sh : S
 
   -- what is outside the finish and before a step in it is before the current step
   before_now : (x y : ℕ) → y < m.steps → (Under (q ++ (k ∷ [])) (lab x) → ⊥) → Under (node f) (lab y)
-      → T (at_or_before m y x) → T (m.before x now)
+      → T (at_or_after m y x) → T (m.before x now)
   before_now x y i d u a = go (cases_eq x y)
     where
       deep : (y : ℕ) → Under (node f) (lab y) → (w : Label) × (lab y ≡ q ++ (k ∷ w))

@@ -2,7 +2,7 @@
 use Rattle.std.proofs.lemmas.Bool.Decides.{nat_tests}
 use Rattle.std.proofs.Common.{◌≡◌, ℕ, suc, ◌<◌, ◌≤◌, true, not, T, ◌⊎◌, List, [], ◌∷◌, ◌++◌, sym, refl, ap, ◌∙◌, subst, inl, inr, append_assoc, arith}
 use Rattle.std.proofs.lemmas.Bool.{cases_lt}
-use Rattle.model.specs.Orders.{Order, Task, at_or_before, opened}
+use Rattle.model.specs.Orders.{Order, Task, at_or_after, opened}
 use Rattle.model.specs.Labels.{Label, odd, Under, Low}
 use Rattle.model.specs.Shapes.{In, Above, Lows, Stack, Runner, Covered, Shape}
 use Rattle.model.proofs.Trees.Labels.{low_here, low_more, low_new, low_self, low_turn}
@@ -24,7 +24,7 @@ module _ (m : Order) (lab node : ℕ → Label) (by owner : ℕ → ℕ) (sh : S
   here = sh.runner t run
 
   -- the new labels come past its current step
-  place : Spot m lab node t here.path here.turn (at_or_before m (m.task t).current)
+  place : Spot m lab node t here.path here.turn (at_or_after m (m.task t).current)
   place = turn_spot sh t run
 
   -- the order after the open
@@ -48,7 +48,7 @@ module _ (m : Order) (lab node : ℕ → Label) (by owner : ℕ → ℕ) (sh : S
         go (inl l) = inl l
         go (inr l) = inr (i, [], turn_i, ap node (omega arith) ∙ node_own)
 
-    open_adds : Adds m n lab node t 1 here.path here.turn (at_or_before m (m.task t).current)
+    open_adds : Adds m n lab node t 1 here.path here.turn (at_or_after m (m.task t).current)
     open_adds =
         one_added (refl, omega arith, omega arith) (λ f l. refl) (λ f u h. h) (λ a b. refl) (λ a b. refl)
         (i, 0 ∷ [], turn_i, lab_own) node_slot

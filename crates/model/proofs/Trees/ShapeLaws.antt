@@ -1,9 +1,11 @@
 -- The laws of an order follow from its shape.
-use Rattle.std.proofs.Common.{ℕ, ◌<◌, T, ◌⊎◌, sym, subst, inl, inr}
+use Rattle.std.proofs.lemmas.Bool.Decides.{nat_tests}
+use Rattle.std.proofs.Common.{ℕ, ◌<◌, ◌≤◌, T, ◌⊎◌, List, [], ◌∷◌, sym, subst, inl, inr, arith}
+use Rattle.model.specs.Lists.{mem}
 use Rattle.model.specs.Orders.{Order}
 use Rattle.model.specs.Reached.{OrderLaws}
 use Rattle.model.specs.Labels.{Label, left, over}
-use Rattle.model.specs.Shapes.{Shape}
+use Rattle.model.specs.Shapes.{In, Shape}
 use Rattle.model.proofs.Trees.Labels.{over_left, left_irrefl, left_trans, over_trans, left_total, over_between}
 
 module _ (m : Order) (lab node : ℕ → Label) (by owner : ℕ → ℕ) (sh : Shape m lab node by owner) where
@@ -25,8 +27,13 @@ module _ (m : Order) (lab node : ℕ → Label) (by owner : ℕ → ℕ) (sh : S
   total a b k l (inl h) = inl (of_left a b k l h)
   total a b k l (inr h) = inr (of_left b a l k h)
 
-  pub shape_laws : OrderLaws m
-  shape_laws =
+  -- a number that the test finds in a task's finishes is one of them
+  listed : (f : ℕ) (fs : List ℕ) → T (mem f fs) → In f fs
+  listed f [] h = h
+  listed f (x ∷ fs) h = grind (arith, nat_tests, listed f fs)
+
+  pub shape_laws : m.tasks ≤ m.steps → m.finishes ≤ m.steps → OrderLaws m
+  shape_laws tasks finishes =
       record {
         before_held = sh.before_held;
         earlier_held = sh.earlier_held;
@@ -40,6 +47,10 @@ module _ (m : Order) (lab node : ℕ → Label) (by owner : ℕ → ℕ) (sh : S
             (left_trans (lab a) (lab b) (lab c) (left_of a b h) (left_of b c k));
         earlier_irrefl = λ a h. left_irrefl (lab a) (left_of a a h);
         earlier_total = λ a b k l n. total a b k l (left_total (lab a) (lab b) (λ e. n (sh.labelled.apart a b k l e)));
+        tasks_within = tasks;
+        finishes_within = finishes;
+        task_held = λ t r. (sh.runner t r).held;
+        finish_held = λ t f r h. (sh.runner t r).finish_held f (listed f (m.task t).finishes h);
         current_held = λ t r. (sh.runner t r).current_held;
         current_last = λ t b r h. (sh.runner t r).tip b h;
         between = λ a b c h k n o.

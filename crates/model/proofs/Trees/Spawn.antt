@@ -1,8 +1,8 @@
 -- A spawn keeps the shape: past the current step come the first step of the child, in a task, and the next step of the task itself.
 use Rattle.std.proofs.Common.{◌≡◌, ℕ, ◌+◌, ◌<◌, ◌≤◌, true, not, T, ◌⊎◌, [], ◌∷◌, ◌++◌, sym, refl, ap, ◌∙◌, subst, inl, inr, append_assoc, arith}
 use Rattle.std.proofs.lemmas.Bool.Decides.{nat_tests}
-use Rattle.model.specs.Lists.{head_or}
-use Rattle.model.specs.Orders.{Order, Task, retask, at_or_before, spawned}
+use Rattle.model.specs.Lists.{head_or, put}
+use Rattle.model.specs.Orders.{Order, Task, at_or_after, spawned}
 use Rattle.model.specs.Labels.{Label, odd, Under, Low}
 use Rattle.model.specs.Shapes.{In, Above, Runner, Covered, Shape}
 use Rattle.model.proofs.Trees.Labels.{under_more, low_here, low_more, low_new, low_aside}
@@ -17,7 +17,7 @@ module _ (m : Order) (lab node : ℕ → Label) (by owner : ℕ → ℕ) (sh : S
   here = sh.runner t run
 
   -- the new labels come past its current step
-  place : Spot m lab node t here.path here.turn (at_or_before m (m.task t).current)
+  place : Spot m lab node t here.path here.turn (at_or_after m (m.task t).current)
   place = turn_spot sh t run
 
   -- the order after the spawn
@@ -52,13 +52,13 @@ module _ (m : Order) (lab node : ℕ → Label) (by owner : ℕ → ℕ) (sh : S
     before_old a b (inl h) = grind arith
     before_old a b (inr h) = grind arith
 
-    before_new : (a b : ℕ) → Fresh m 2 b → n.before a b ≡ at_or_before m (m.task t).current a
+    before_new : (a b : ℕ) → Fresh m 2 b → n.before a b ≡ at_or_after m (m.task t).current a
     before_new a b (h, k) = grind arith
 
     lives_more : (f u : ℕ) → T (m.lives f u) → T (n.lives f u)
     lives_more f u h = grind arith
 
-    spawn_adds : Adds m n lab node t 2 here.path here.turn (at_or_before m (m.task t).current)
+    spawn_adds : Adds m n lab node t 2 here.path here.turn (at_or_after m (m.task t).current)
     spawn_adds =
         record {
           counts = (refl, omega arith, omega arith);
@@ -131,14 +131,14 @@ module _ (m : Order) (lab node : ℕ → Label) (by owner : ℕ → ℕ) (sh : S
 
     runs_on : (u : ℕ) → T (n.task u).running → Runner n lab node by owner u (n.task u)
     runs_on u =
-        retask_case (λ k. T k.running → Runner n lab node by owner u k) (retask m.task t own) m.tasks child u
+        retask_case (λ k. T k.running → Runner n lab node by owner u k) (put m.task t own) m.tasks child u
         (λ e go. subst (λ z. Runner n lab node by owner z child) (sym e) on_child)
         (λ d. retask_case (λ k. T k.running → Runner n lab node by owner u k) m.task t own u
         (λ e go. subst (λ z. Runner n lab node by owner z own) (sym e) on_own)
         (λ d go. on_other sh run place spawn_adds u d go))
 
     task_child : n.task m.tasks ≡ child
-    task_child = retask_at (retask m.task t own) m.tasks child
+    task_child = retask_at (put m.task t own) m.tasks child
 
     task_own : n.task t ≡ own
     task_own = grind arith

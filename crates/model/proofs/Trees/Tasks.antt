@@ -1,7 +1,7 @@
 -- Running tasks of a shape: their finishes, the steps that they are on, and the ways in which they cover a step.
 use Rattle.std.proofs.Common.{◌≡◌, ℕ, ◌<◌, ◌≤◌, false, T, ◌⊎◌, List, [], ◌∷◌, sym, refl, ap, ◌∙◌, subst, inl, inr, arith}
-use Rattle.model.specs.Lists.{head_or}
-use Rattle.model.specs.Orders.{Order, Task, retask, at_or_before}
+use Rattle.model.specs.Lists.{head_or, put}
+use Rattle.model.specs.Orders.{Order, Task, at_or_after}
 use Rattle.model.specs.Labels.{Label, Under}
 use Rattle.model.specs.Shapes.{In, Above, Stack, Covered, Shape}
 use Rattle.model.proofs.Trees.Labels.{under_refl}
@@ -24,13 +24,13 @@ stack_split f (x ∷ fs) (inr i) = inr (inl (refl, i))
 
 -- after one task is changed: that one, or another
 pub retask_case : (P : Task → Type 0) (task : ℕ → Task) (t : ℕ) (new : Task) (u : ℕ)
-    → (u ≡ t → P new) → ((u ≡ t → ⊥) → P (task u)) → P (retask task t new u)
+    → (u ≡ t → P new) → ((u ≡ t → ⊥) → P (task u)) → P (put task t new u)
 retask_case P task t new u a b = grind arith
 
-pub retask_at : (task : ℕ → Task) (t : ℕ) (new : Task) → retask task t new t ≡ new
+pub retask_at : (task : ℕ → Task) (t : ℕ) (new : Task) → put task t new t ≡ new
 retask_at task t new = retask_case (λ k. k ≡ new) task t new t (λ e. refl) (λ d. absurd (d refl))
 
-pub retask_off : (task : ℕ → Task) (t : ℕ) (new : Task) (u : ℕ) → (u ≡ t → ⊥) → retask task t new u ≡ task u
+pub retask_off : (task : ℕ → Task) (t : ℕ) (new : Task) (u : ℕ) → (u ≡ t → ⊥) → put task t new u ≡ task u
 retask_off task t new u d = retask_case (λ k. k ≡ task u) task t new u (λ e. absurd (d e)) (λ e. refl)
 
 -- a running task has the finish f open
@@ -43,7 +43,7 @@ Inner m lab node f x = (u : ℕ) × (g : ℕ) × T (m.task u).running × Above g
 
 -- a running task with the record k has f open and has come after x
 abbrev pub Goes : Order → ℕ → ℕ → Task → Type 0
-Goes n f x k = T k.running × In f k.finishes × T (at_or_before n k.current x)
+Goes n f x k = T k.running × In f k.finishes × T (at_or_after n k.current x)
 
 -- a running task with the record k has g open inside f, and x lies in g
 abbrev pub Holds : (ℕ → Label) → (ℕ → Label) → ℕ → ℕ → ℕ → Task → Type 0
@@ -56,18 +56,18 @@ by_task n lab node f x u w = inl (u, w.0, w.1, w.2)
 pub by_inner : (n : Order) (lab node : ℕ → Label) (f x u g : ℕ) → Holds lab node f x g (n.task u) → Covered n lab node f x
 by_inner n lab node f x u g w = inr (inr (u, g, w.0, w.1, w.2))
 
-pub by_last : (n : Order) (lab node : ℕ → Label) (f x l : ℕ) → T (n.last f l) → T (at_or_before n l x) → Covered n lab node f x
+pub by_last : (n : Order) (lab node : ℕ → Label) (f x l : ℕ) → T (n.last f l) → T (at_or_after n l x) → Covered n lab node f x
 by_last n lab node f x l h k = inr (inl (l, h, k))
 
 module _ {m : Order} {lab node : ℕ → Label} {by owner : ℕ → ℕ} (sh : Shape m lab node by owner) where
   pub no_before : (a b : ℕ) → m.steps ≤ a → m.before a b ≡ false
   no_before a b h = grind arith
 
-  pub at_held : (s a : ℕ) → s < m.steps → T (at_or_before m s a) → a < m.steps
+  pub at_held : (s a : ℕ) → s < m.steps → T (at_or_after m s a) → a < m.steps
   at_held s a h k = grind arith
 
   -- a running task's current step is at or before no step but itself
-  pub not_at : (s u : ℕ) → T (m.task u).running → T (at_or_before m s (m.task u).current) → (m.task u).current ≡ s
+  pub not_at : (s u : ℕ) → T (m.task u).running → T (at_or_after m s (m.task u).current) → (m.task u).current ≡ s
   not_at s u go k = grind arith
 
   pub current_apart : (t u : ℕ) → T (m.task t).running → T (m.task u).running → (m.task t).current ≡ (m.task u).current → t ≡ u

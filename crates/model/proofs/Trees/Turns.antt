@@ -2,7 +2,7 @@
 use Rattle.std.proofs.Common.{◌≡◌, ℕ, suc, ◌<◌, T, eqb, ◌⊎◌, [], ◌∷◌, ◌++◌, sym, ap, ◌∙◌, subst, inl, inr, arith}
 use Rattle.std.proofs.lemmas.Bool.{cases_eq}
 use Rattle.std.proofs.lemmas.Bool.Decides.{nat_tests}
-use Rattle.model.specs.Orders.{Order, at_or_before}
+use Rattle.model.specs.Orders.{Order, at_or_after}
 use Rattle.model.specs.Labels.{Label, Under, Low}
 use Rattle.model.specs.Shapes.{In, Runner, Shape}
 use Rattle.model.proofs.Shelf.Tests.{or_l, or_r}
@@ -37,14 +37,14 @@ module _ {m : Order} {lab node : ℕ → Label} {by owner : ℕ → ℕ} (sh : S
   only_now : (x : ℕ) → x < m.steps → Under child (lab x) → now ≡ x
   only_now x h u = sh.labelled.leaf now x here.current_held h (subst (λ z. Under z (lab x)) (sym here.at) u)
 
-  joined_out : (x : ℕ) → T (at_or_before m now x) → (Under child (lab x) → ⊥) → T (m.before x now)
+  joined_out : (x : ℕ) → T (at_or_after m now x) → (Under child (lab x) → ⊥) → T (m.before x now)
   joined_out x w d = go (cases_eq x now)
     where
       go : (x ≡ now) ⊎ (x ≡ now → ⊥) → T (m.before x now)
       go (inl e) = absurd (d (subst (Under child) (sym (ap lab e ∙ here.at)) (under_refl child)))
       go (inr o) = grind arith
 
-  pub turn_spot : Spot m lab node t here.path here.turn (at_or_before m now)
+  pub turn_spot : Spot m lab node t here.path here.turn (at_or_after m now)
   turn_spot =
       record {
         even = here.even;

@@ -2,7 +2,7 @@
 use Rattle.std.proofs.Common.{◌≡◌, [], ◌∷◌, refl, arith}
 use Rattle.model.specs.declared.Stage.TheVariants.{Feeding}
 use Rattle.model.specs.Past.{Past}
-use Rattle.model.specs.Cells.{CellKind}
+use Rattle.model.specs.Accesses.{CellKind}
 use Rattle.model.specs.Laws.{Clean}
 use Rattle.model.specs.Runs.{Opening, after_calls, replies, all_fed, each_took}
 

@@ -6,7 +6,7 @@ use Rattle.model.specs.declared.Event.{Event}
 use Rattle.model.specs.declared.Race.{Race}
 use Rattle.model.specs.Past.{Past, at}
 use Rattle.model.specs.Before.{before}
-use Rattle.model.specs.Cells.{CellKind, reads, writes}
+use Rattle.model.specs.Accesses.{CellKind, reads, writes}
 use Rattle.model.specs.Rules.{Limits}
 use Rattle.model.specs.Laws.{Clean, RacedBy, of_kind, Unordered, FirstNamed}
 use Rattle.model.proofs.Shelf.Tests.{or_l}

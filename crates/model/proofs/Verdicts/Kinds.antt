@@ -3,7 +3,7 @@ use Rattle.std.proofs.Common.{◌≡◌, T, [], ◌∷◌, Some, arith}
 use Rattle.model.specs.declared.Event.{Event}
 use Rattle.model.specs.declared.Race.{Race}
 use Rattle.model.specs.Past.{Past, at}
-use Rattle.model.specs.Cells.{CellKind}
+use Rattle.model.specs.Accesses.{CellKind}
 use Rattle.model.specs.Rules.{Limits}
 use Rattle.model.specs.Laws.{RacedBy, of_kind}
 use Rattle.model.proofs.Shelf.Places.{at_new, at_grow}

@@ -1,15 +1,17 @@
 -- What a reply says of where the run stands: a refusal and a stop leave it as it was, and a verdict tells it.
-use Rattle.std.proofs.Common.{◌≡◌, ℕ, Bool, true, false, cond, eqb, length, Some, None, Option, sym, refl, ap, ◌∙◌, inl, inr, arith}
+use Rattle.std.proofs.Math.Facts.{yes_eqb}
+use Rattle.std.proofs.Common.{◌≡◌, ℕ, Bool, true, false, cond, not, T, eqb, eqb→eq, length, Some, None, Option, sym, refl, ap, ◌∙◌, inl, inr, arith}
 use Rattle.model.specs.declared.Event.{Event}
 use Rattle.model.specs.declared.Race.{Race}
 use Rattle.model.specs.declared.Stage.{Stage}
 use Rattle.model.specs.declared.Stage.TheVariants.{Feeding, Raced, Sealed}
 use Rattle.model.specs.declared.Call.{Call}
 use Rattle.model.specs.declared.Call.TheVariants.{Feed, Seal}
-use Rattle.model.specs.Cells.{CellKind}
+use Rattle.model.specs.Accesses.{CellKind}
 use Rattle.model.specs.Rules.{Answer, taken, refused, judge}
-use Rattle.model.specs.Runs.{Opening, Standing, Reply, took, stopped, turned_away, gave_verdict, named}
-use Rattle.model.specs.Runs.{answer_reply, reply_by, moved_by, answer_to, Sealing}
+use Rattle.model.specs.Runs.{Opening, Standing, Reply, took, stopped, turned_away, gave_verdict, is_sealed, named, handed_back}
+use Rattle.model.specs.Runs.{answer_reply, seal_reply, reply_by, moved_by, answer_to, EventAnswered, SealAnswered}
+use Rattle.model.proofs.Shelf.Tests.{tried, cond_yes, cond_no}
 
 module _ {C : Type 0} where
   turned_still : (s : Standing C) (c : Call C) (n p : ℕ) → moved_by s c (turned_away n p) ≡ s
@@ -94,13 +96,35 @@ module _ {C : Type 0} (k : CellKind C) (o : Opening) (s : Standing C) where
       × (j ≡ o.job) × (i ≡ o.job) × (m ≡ named s.stage) × (n ≡ count)
   sealed_tells j i n m q = grind arith
 
-  cut : (m : Option (Race C)) (j : ℕ) (b : Bool) → Sealing k o m count j (cond b (gave_verdict o.job m count) (turned_away 12 count))
-  cut m j true = inl (refl, refl)
-  cut m j false = inr (inr refl, refl)
+  -- the same events taken, at another stage
+  abbrev at_stage : Stage C → Standing C
+  at_stage g = record s { stage = g }
 
-  stage_spent : (g : Stage C) (j : ℕ) → Sealing k o (named g) count j (reply_by says o.job count g (Seal j))
-  stage_spent Feeding j = cut None j (eqb j o.job)
-  stage_spent e j = grind arith
+  event_at : (g : Stage C) (e : Event C) → EventAnswered k o (at_stage g) e (answer_to k o (at_stage g) (Feed e))
+  event_at Feeding e = inr (inr (refl, refl))
+  event_at (Raced r) e = inr (inl (r, refl, refl))
+  event_at (Sealed m) e = inl (tt, refl)
 
-  pub token_spent : (j : ℕ) → Sealing k o (named s.stage) count j (answer_to k o s (Seal j))
-  token_spent j = stage_spent s.stage j
+  pub event_answered : (e : Event C) → EventAnswered k o s e (answer_to k o s (Feed e))
+  event_answered e = event_at s.stage e
+
+  -- a run that is not sealed asks for the token's job
+  unsealed : (g : Stage C) (j : ℕ) → T (not (is_sealed g)) → answer_to k o (at_stage g) (Seal j) ≡ seal_reply o.job count (named g) j
+  unsealed Feeding j u = refl
+  unsealed (Raced r) j u = refl
+  unsealed (Sealed m) j u = absurd u
+
+  job_asked : (g : Stage C) (j : ℕ) → T (not (is_sealed g)) → SealAnswered k o (at_stage g) j (answer_to k o (at_stage g) (Seal j))
+  job_asked g j u =
+      elim (tried (eqb j o.job)) [
+        | inl y ↦ (let p = unsealed g j u ∙ cond_yes (eqb j o.job) _ _ y in inr (inr (u, eqb→eq j o.job y, p, ap (handed_back j) p)))
+        | inr n ↦ (let p = unsealed g j u ∙ cond_no (eqb j o.job) _ _ n in inr (inl (u, (λ e. n (yes_eqb e)), p, ap (handed_back j) p)))
+      ]
+
+  seal_at : (g : Stage C) (j : ℕ) → SealAnswered k o (at_stage g) j (answer_to k o (at_stage g) (Seal j))
+  seal_at (Sealed m) j = inl (tt, refl, refl)
+  seal_at Feeding j = job_asked Feeding j tt
+  seal_at (Raced r) j = job_asked (Raced r) j tt
+
+  pub seal_answered : (j : ℕ) → SealAnswered k o s j (answer_to k o s (Seal j))
+  seal_answered j = seal_at s.stage j

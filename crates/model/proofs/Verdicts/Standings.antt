@@ -6,15 +6,15 @@ use Rattle.model.specs.declared.Stage.TheVariants.{Feeding, Raced, Sealed}
 use Rattle.model.specs.declared.Call.{Call}
 use Rattle.model.specs.declared.Call.TheVariants.{Feed, Seal}
 use Rattle.model.specs.Past.{Past}
-use Rattle.model.specs.Cells.{CellKind}
+use Rattle.model.specs.Accesses.{CellKind}
 use Rattle.model.specs.Rules.{Answer, taken, refused, judge}
-use Rattle.model.specs.Laws.{Clean, Verdict}
+use Rattle.model.specs.Laws.{Clean, Outcome}
 use Rattle.model.specs.Runs.{Opening, Standing, turned_away, gave_verdict, named, answer_reply, moved_by, answer_to, after_calls}
 
 module _ {C : Type 0} (k : CellKind C) (o : Opening) where
   -- the past and the race that is named here make a verdict
   abbrev Judged : Standing C → Type 0
-  Judged s = Verdict k o.limits s.past (named s.stage)
+  Judged s = Outcome k o.limits s.past (named s.stage)
 
   fed : (h : Past C) (e : Event C) (a : Answer C) → judge k o.limits h e ≡ a → Clean k o.limits h
       → Judged (moved_by (record { past = h; stage = Feeding }) (Feed e) (answer_reply (length h) a))
@@ -22,13 +22,13 @@ module _ {C : Type 0} (k : CellKind C) (o : Opening) where
   fed h e (taken (Some r)) p q = (p, q)
   fed h e (refused n) p q = q
 
-  shut : (h : Past C) (g : Stage C) (j : ℕ) (b : Bool) → Verdict k o.limits h (named g)
+  shut : (h : Past C) (g : Stage C) (j : ℕ) (b : Bool) → Outcome k o.limits h (named g)
       → Judged (moved_by (record { past = h; stage = g }) (Seal j)
       (cond b (gave_verdict o.job (named g) (length h)) (turned_away 12 (length h))))
   shut h g j true q = q
   shut h g j false q = q
 
-  called : (h : Past C) (g : Stage C) (c : Call C) → Verdict k o.limits h (named g)
+  called : (h : Past C) (g : Stage C) (c : Call C) → Outcome k o.limits h (named g)
       → Judged (moved_by (record { past = h; stage = g }) c (answer_to k o (record { past = h; stage = g }) c))
   called h Feeding (Feed e) q = fed h e (judge k o.limits h e) refl q
   called h Feeding (Seal j) q = shut h Feeding j (eqb j o.job) q

@@ -7,11 +7,11 @@ use Rattle.model.specs.declared.Event.TheVariants.{Spawn, End, Open, Close, Read
 use Rattle.model.specs.Lists.{mem, head_or, rest}
 use Rattle.model.specs.Past.{Past, makes, own, opens, home, innermost, innermost_of, Finish, outer, opened_by}
 use Rattle.model.specs.Past.{same_finish}
-use Rattle.model.specs.Cells.{CellKind}
+use Rattle.model.specs.Accesses.{CellKind}
 use Rattle.model.specs.Orders.{Order}
 use Rattle.model.specs.Link.{order_of}
 use Rattle.model.proofs.Shelf.Tests.{or_l, or_r, cond_no}
-use Rattle.model.proofs.Readers.Sound.{Known, HasEnded, Sound, known_old}
+use Rattle.model.proofs.Linking.Sound.{Known, HasEnded, Sound, known_old}
 
 pub same_finish_eq : (f g : Finish) → T (same_finish f g) → f ≡ g
 same_finish_eq outer outer h = refl

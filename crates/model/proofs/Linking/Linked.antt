@@ -6,18 +6,18 @@ use Rattle.model.specs.declared.Event.{Event}
 use Rattle.model.specs.Lists.{is_empty}
 use Rattle.model.specs.Past.{Past, at, own, home, innermost, innermost_of, same_finish, ended, made, spawned_tasks, lived_in}
 use Rattle.model.specs.Before.{before, serial}
-use Rattle.model.specs.Cells.{CellKind, is_access}
+use Rattle.model.specs.Accesses.{CellKind, is_access}
 use Rattle.model.specs.Orders.{Order}
 use Rattle.model.specs.Reached.{Reached, OrderLaws}
 use Rattle.model.specs.Link.{order_of, step_at, stands, Linked}
 use Rattle.model.proofs.Shelf.Tests.{or_r}
 use Rattle.model.proofs.Shelf.Lists.{any_of}
-use Rattle.model.proofs.Readers.Sound.{Sound, spawned_is}
-use Rattle.model.proofs.Readers.Finishes.{finish_number}
-use Rattle.model.proofs.Readers.Reach.{keeper_reached, lives_by, no_lives, full_is}
-use Rattle.model.proofs.Readers.Access.{before_by_steps, steps_by_before}
-use Rattle.model.proofs.Readers.Serial.{stands_serially, serially_stands, serial_once, serial_places}
-use Rattle.model.proofs.Readers.Next.{step_done_on}
+use Rattle.model.proofs.Linking.Sound.{Sound, spawned_is}
+use Rattle.model.proofs.Linking.Finishes.{finish_number}
+use Rattle.model.proofs.Linking.Reach.{keeper_reached, lives_by, no_lives, full_is}
+use Rattle.model.proofs.Linking.Access.{before_by_steps, steps_by_before}
+use Rattle.model.proofs.Linking.Serial.{stands_serially, serially_stands, serial_once, serial_places}
+use Rattle.model.proofs.Linking.Next.{step_done_on}
 
 -- what holds with no law of orders
 module _ {C : Type 0} (k : CellKind C) (lim : ℕ) where

@@ -2,15 +2,15 @@
 use Rattle.std.proofs.Common.{ℕ, T}
 use Rattle.model.specs.declared.Event.{Event}
 use Rattle.model.specs.Past.{Past, Finish}
-use Rattle.model.specs.Cells.{CellKind}
+use Rattle.model.specs.Accesses.{CellKind}
 use Rattle.model.specs.Orders.{Order}
 use Rattle.model.specs.Link.{order_of}
-use Rattle.model.proofs.Readers.Finishes
-use Rattle.model.proofs.Readers.Labels
-use Rattle.model.proofs.Readers.Labels.{is_upto}
-use Rattle.model.proofs.Readers.DoneOn
+use Rattle.model.proofs.Linking.Finishes
+use Rattle.model.proofs.Linking.PlaceSteps
+use Rattle.model.proofs.Linking.PlaceSteps.{is_upto}
+use Rattle.model.proofs.Linking.DoneOn
 
--- what a section opens, to write `now h t` in place of `Labels.now k lim h t`
+-- what a section opens, to write `now h t` in place of `PlaceSteps.now k lim h t`
 pub record Words (C : Type 0) : Type 1 where
   -- the order that the keeper means after a past
   pub keeper : Past C → Order
@@ -40,12 +40,12 @@ abbrev pub at_keeper : {C : Type 0} → CellKind C → ℕ → Words C
 at_keeper k lim =
     record {
       keeper = λ h. order_of lim h;
-      now = λ h t. Labels.now k lim h t;
-      event_step = λ h e. Labels.event_step k lim h e;
-      place_step = λ h i. Labels.place_step k lim h i;
+      now = λ h t. PlaceSteps.now k lim h t;
+      event_step = λ h e. PlaceSteps.event_step k lim h e;
+      place_step = λ h i. PlaceSteps.place_step k lim h i;
       done_on = λ h i. DoneOn.done_on k lim h i;
       goes_on = λ h i. DoneOn.goes_on k lim h i;
-      owner = λ h x. Labels.owner k lim h x;
+      owner = λ h x. PlaceSteps.owner k lim h x;
       finish_number = λ h f. Finishes.finish_number k lim h f;
       StepBefore = λ h x y. T ((order_of lim h).before x y);
       Upto = λ h x y. T (is_upto k lim h x y);

@@ -7,19 +7,19 @@ use Rattle.model.specs.declared.Event.TheVariants.{Spawn}
 use Rattle.model.specs.Lists.{mem, some_or}
 use Rattle.model.specs.Past.{Past, at, actor, child, makes}
 use Rattle.model.specs.Before.{of_task, written, serial}
-use Rattle.model.specs.Cells.{CellKind}
+use Rattle.model.specs.Accesses.{CellKind}
 use Rattle.model.specs.Orders.{Order}
 use Rattle.model.specs.Reached.{Reached, OrderLaws}
 use Rattle.model.specs.Link.{stands, count}
 use Rattle.model.proofs.Shelf.Lists.{mem_head, ++_of, ++_l, ++_r, flat_of, flat_in}
 use Rattle.model.proofs.Shelf.Places.{at_top, at_lt, at_some, at_case, at_grow}
-use Rattle.model.proofs.Readers.Sound.{Known, Sound, known_new, actor_known}
-use Rattle.model.proofs.Readers.Steps
-use Rattle.model.proofs.Readers.Steps.{upto_case}
-use Rattle.model.proofs.Readers.Words.{at_keeper}
-use Rattle.model.proofs.Readers.Subtree.{subtree, subtree_refl, subtree_trans, subtree_child, within_at, done_on_task, goes_on_task}
-use Rattle.model.proofs.Readers.Subtree.{earlier_upto}
-use Rattle.model.proofs.Readers.Sorted.{Sorted, sorted-++, sorted_flat, sorted_map, sorted_once, stands_rel, rel_stands}
+use Rattle.model.proofs.Linking.Sound.{Known, Sound, known_new, actor_known}
+use Rattle.model.proofs.Linking.Steps
+use Rattle.model.proofs.Linking.Steps.{upto_case}
+use Rattle.model.proofs.Linking.Words.{at_keeper}
+use Rattle.model.proofs.Linking.Subtree.{subtree, subtree_refl, subtree_trans, subtree_child, within_at, done_on_task, goes_on_task}
+use Rattle.model.proofs.Linking.Subtree.{earlier_upto}
+use Rattle.model.proofs.Linking.Sorted.{Sorted, sorted-++, sorted_flat, sorted_map, sorted_once, stands_rel, rel_stands}
 
 -- a list of one place, or of none
 one_sorted : (b : Bool) (x : ℕ) → Sorted ◌<◌ (cond b (x ∷ []) [])

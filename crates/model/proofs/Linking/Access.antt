@@ -5,16 +5,16 @@ use Rattle.model.specs.declared.Event.{Event}
 use Rattle.model.specs.declared.Event.TheVariants.{Spawn}
 use Rattle.model.specs.Past.{Past, at, actor}
 use Rattle.model.specs.Before.{before}
-use Rattle.model.specs.Cells.{CellKind, is_access}
+use Rattle.model.specs.Accesses.{CellKind, is_access}
 use Rattle.model.specs.Orders.{Order}
 use Rattle.model.specs.Reached.{Reached, OrderLaws}
 use Rattle.model.specs.Link.{number, order_of, step_now, step_at}
 use Rattle.model.proofs.Shelf.Places.{at_lt, at_case}
-use Rattle.model.proofs.Readers.Sound.{Known, Sound}
-use Rattle.model.proofs.Readers.Labels
-use Rattle.model.proofs.Readers.Labels.{now, current_is, event_step, place_step_old}
-use Rattle.model.proofs.Readers.Words.{at_keeper}
-use Rattle.model.proofs.Readers.Steps.{upto_places, before_upto, upto_refl, upto_before}
+use Rattle.model.proofs.Linking.Sound.{Known, Sound}
+use Rattle.model.proofs.Linking.PlaceSteps
+use Rattle.model.proofs.Linking.PlaceSteps.{now, current_is, event_step, place_step_old}
+use Rattle.model.proofs.Linking.Words.{at_keeper}
+use Rattle.model.proofs.Linking.Steps.{upto_places, before_upto, upto_refl, upto_before}
 
 -- the same order with another limit
 abbrev pub relimit : ℕ → Order → Order
@@ -52,7 +52,7 @@ module _ {C : Type 0} (k : CellKind C) (lim : ℕ) where
   step_at_old h e i l = grind arith
 
   step_at_place : (h : Past C) → Sound k h → (i : ℕ) (d : Event C) → at h i ≡ Some d → T (is_access d)
-      → step_at h i ≡ Labels.place_step k lim h i
+      → step_at h i ≡ PlaceSteps.place_step k lim h i
   step_at_place [] s i d q a = cc
   step_at_place (e ∷ h) s i d q a = grind (arith, nat_tests, step_at_place h, at_case, step_at_top, step_now_is, event_access, step_at_old, place_step_old)
 

@@ -6,15 +6,15 @@ use Rattle.model.specs.declared.Event.{Event}
 use Rattle.model.specs.declared.Event.TheVariants.{Spawn, End, Open, Close, Read, Write}
 use Rattle.model.specs.Lists.{any, head_or, below}
 use Rattle.model.specs.Past.{Past, Finish, at, actor, makes, home, innermost}
-use Rattle.model.specs.Cells.{CellKind}
+use Rattle.model.specs.Accesses.{CellKind}
 use Rattle.model.specs.Orders.{Order, Task}
 use Rattle.model.specs.Link.{number, order_of}
 use Rattle.model.proofs.Shelf.Places.{at_top, at_lt, at_case}
-use Rattle.model.proofs.Readers.Sound.{Known, HasEnded, Sound, stale, actor_known}
-use Rattle.model.proofs.Readers.Keeper.{task_of, task_of_is, known_in}
-use Rattle.model.proofs.Readers.Finishes
-use Rattle.model.proofs.Readers.Finishes.{home_has, home_old, finish_number_old}
-use Rattle.model.proofs.Readers.Reach.{head_is, empty_is}
+use Rattle.model.proofs.Linking.Sound.{Known, HasEnded, Sound, stale, actor_known}
+use Rattle.model.proofs.Linking.Keeper.{task_of, task_of_is, known_in}
+use Rattle.model.proofs.Linking.Finishes
+use Rattle.model.proofs.Linking.Finishes.{home_has, home_old, finish_number_old}
+use Rattle.model.proofs.Linking.Reach.{head_is, empty_is}
 
 module _ {C : Type 0} (k : CellKind C) (lim : ℕ) where
   -- the order that the keeper means after a past

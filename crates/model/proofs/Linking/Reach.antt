@@ -9,7 +9,7 @@ use Rattle.model.specs.declared.Event.TheVariants.{Spawn, End, Open, Close}
 use Rattle.model.specs.Lists.{is_empty, head_or, rest}
 use Rattle.model.specs.Past.{Past, Finish, actor, makes, own, opens, home, innermost, innermost_of, outer, opened_by, same_finish}
 use Rattle.model.specs.Past.{ended, lived_in}
-use Rattle.model.specs.Cells.{CellKind}
+use Rattle.model.specs.Accesses.{CellKind}
 use Rattle.model.specs.Rules.{steps_held}
 use Rattle.model.specs.Orders.{Order, Task}
 use Rattle.model.specs.Reached.{Reached}
@@ -17,12 +17,12 @@ use Rattle.model.specs.Link.{number, order_of}
 use Rattle.model.specs.Reached.{start, by_spawn, by_open, by_close, by_end}
 use Rattle.model.proofs.Shelf.Tests.{cond_eq, cond_ne}
 use Rattle.model.proofs.Shelf.Lists.{any_in}
-use Rattle.model.proofs.Readers.Sound.{Known, HasEnded, Good, Sound, known_old, makes_known, spawned_is}
-use Rattle.model.proofs.Readers.Keeper.{task_of, task_of_is, number_inj, tasks_is, known_in}
-use Rattle.model.proofs.Readers.Finishes
-use Rattle.model.proofs.Readers.Finishes.{own_has, home_has, inner_has, home_old, finish_number_old, finish_number_inj, own_numbers}
-use Rattle.model.proofs.Readers.Finishes.{numbers_with, numbers_with_old, finish_numbers_inner, unknown_own, ended_known}
-use Rattle.model.proofs.Readers.Finishes.{same_finish_refl}
+use Rattle.model.proofs.Linking.Sound.{Known, HasEnded, Good, Sound, known_old, makes_known, spawned_is}
+use Rattle.model.proofs.Linking.Keeper.{task_of, task_of_is, number_inj, tasks_is, known_in}
+use Rattle.model.proofs.Linking.Finishes
+use Rattle.model.proofs.Linking.Finishes.{own_has, home_has, inner_has, home_old, finish_number_old, finish_number_inj, own_numbers}
+use Rattle.model.proofs.Linking.Finishes.{numbers_with, numbers_with_old, finish_numbers_inner, unknown_own, ended_known}
+use Rattle.model.proofs.Linking.Finishes.{same_finish_refl}
 
 pub empty_is : (l : List ℕ) → T (is_empty l) → l ≡ []
 empty_is [] h = refl

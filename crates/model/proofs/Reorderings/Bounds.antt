@@ -3,7 +3,8 @@ use Rattle.std.proofs.lemmas.Bool.Decides.{nat_tests}
 use Rattle.std.proofs.Common.{◌≡◌, ◌+◌, ◌≤◌, cond, not, ◌&&◌, T, leb, ◌⊎◌, [], ◌∷◌, length, refl, inr, arith}
 use Rattle.model.specs.declared.Event.TheVariants.{Spawn}
 use Rattle.model.specs.Past.{Past, spawned_tasks}
-use Rattle.model.specs.Cells.{CellKind, cell_held, cells_held}
+use Rattle.model.specs.Accesses.{CellKind}
+use Rattle.model.specs.Cells.{cell_held, cells_held}
 use Rattle.model.specs.Rules.{Limits, steps_held}
 use Rattle.model.specs.Laws.{Clean}
 use Rattle.model.proofs.Orderings.Races.{clean_passes}

@@ -7,21 +7,21 @@ use Rattle.std.proofs.lemmas.Bool.{cases_eq}
 use Rattle.model.specs.declared.Event.{Event}
 use Rattle.model.specs.declared.Event.TheVariants.{Spawn, End, Open, Close, Read, Write}
 use Rattle.model.specs.Past.{Past, at, actor, makes, ends, home, innermost, same_finish}
-use Rattle.model.specs.Before.{leads, awaits, before}
-use Rattle.model.specs.Cells.{CellKind}
+use Rattle.model.specs.Before.{leads, awaited, before}
+use Rattle.model.specs.Accesses.{CellKind}
 use Rattle.model.specs.Orders.{Order}
 use Rattle.model.specs.Reached.{Reached, OrderLaws}
 use Rattle.model.proofs.Shelf.Tests.{or_l, or_r, tried, cond_eq}
 use Rattle.model.proofs.Shelf.Lists.{any_below_of, any_below_in}
 use Rattle.model.proofs.Shelf.Places.{at_top, at_old, at_lt, at_some, at_case}
 use Rattle.model.proofs.Shelf.Befores.{Lead, before_lead, lead_before, before_old, before_lt}
-use Rattle.model.proofs.Readers.Sound.{Known, Sound, known_new, actor_known, child_known, end_last}
-use Rattle.model.proofs.Readers.Finishes.{home_has, inner_has, finish_number_inj, same_finish_eq, same_finish_refl}
-use Rattle.model.proofs.Readers.Reach.{keeper_reached, runs_now}
-use Rattle.model.proofs.Readers.Words.{at_keeper}
-use Rattle.model.proofs.Readers.Labels.{current_is, place_step_old, now_child, now_parent, now_open, now_close, now_end, now_other}
-use Rattle.model.proofs.Readers.Labels.{now_lt, place_step_lt, before_kept, is_upto, upto_kept, spawn_new, open_new, waits, close_new}
-use Rattle.model.proofs.Readers.Labels.{owner_now, owner_place, last_step_of, last_step_by}
+use Rattle.model.proofs.Linking.Sound.{Known, Sound, known_new, actor_known, child_known, end_last}
+use Rattle.model.proofs.Linking.Finishes.{home_has, inner_has, finish_number_inj, same_finish_eq, same_finish_refl}
+use Rattle.model.proofs.Linking.Reach.{keeper_reached, runs_now}
+use Rattle.model.proofs.Linking.Words.{at_keeper}
+use Rattle.model.proofs.Linking.PlaceSteps.{current_is, place_step_old, now_child, now_parent, now_open, now_close, now_end, now_other}
+use Rattle.model.proofs.Linking.PlaceSteps.{now_lt, place_step_lt, before_kept, is_upto, upto_kept, spawn_new, open_new, waits, close_new}
+use Rattle.model.proofs.Linking.PlaceSteps.{owner_now, owner_place, last_step_of, last_step_by}
 
 module _ {C : Type 0} (k : CellKind C) (lim : ℕ) (laws : (limit : ℕ) (m : Order) → Reached limit m → OrderLaws m) where
   open at_keeper k lim use {keeper, now, event_step, place_step, owner, finish_number, Upto, StepBefore}
@@ -100,8 +100,8 @@ module _ {C : Type 0} (k : CellKind C) (lim : ℕ) (laws : (limit : ℕ) (m : Or
   is_end (Spawn a u) q = absurd q
   is_end e q = grind arith
 
-  -- an end that a close awaits has its step up to the close's
-  await_event : (h : Past C) (e : Event C) → Sound k (e ∷ h) → (i : ℕ) (d : Event C) → at h i ≡ Some d → T (awaits h d e)
+  -- an end that a close awaited has its step up to the close's
+  await_event : (h : Past C) (e : Event C) → Sound k (e ∷ h) → (i : ℕ) (d : Event C) → at h i ≡ Some d → T (awaited h d e)
       → Upto (e ∷ h) (place_step h i) (event_step h e)
   await_event h (Close a) s i d q w =
       let at_home = same_finish (home h (actor d)) (innermost h a) in
@@ -166,7 +166,7 @@ module _ {C : Type 0} (k : CellKind C) (lim : ℕ) (laws : (limit : ℕ) (m : Or
           i,
           d.0,
           d.1,
-          or_l (eqb (actor d.0) (actor e)) (makes (actor e) d.0 || awaits h d.0 e) (yes_eqb same),
+          or_l (eqb (actor d.0) (actor e)) (makes (actor e) d.0 || awaited h d.0 e) (yes_eqb same),
           or_l (eqb i i) (before h i i) (eqb_refl i),
         )))
     | inr n ↦ grind (arith, nat_tests, same_step h)
@@ -259,7 +259,7 @@ module _ {C : Type 0} (k : CellKind C) (lim : ℕ) (laws : (limit : ℕ) (m : Or
               la.0,
               End w,
               la.2,
-              or_r (eqb w a) (awaits h (End w) (Close a)) (yes_and (eqb w w) (same_finish (home h w) (innermost h a)) (eqb_refl w)
+              or_r (eqb w a) (awaited h (End w) (Close a)) (yes_and (eqb w w) (same_finish (home h w) (innermost h a)) (eqb_refl w)
                   (subst (λ g. T (same_finish (home h w) g)) at_home (same_finish_refl (home h w)))),
               to_end h s.1 b i la.0 w l la.2 up,
             ))

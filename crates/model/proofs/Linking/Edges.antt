@@ -3,14 +3,15 @@ use Rattle.std.proofs.Common.{◌≡◌, ℕ, ◌<◌, Bool, T, ◌⊎◌, List,
 use Rattle.model.specs.Lists.{mem, keep, first_of, last_of}
 use Rattle.model.specs.Past.{Past}
 use Rattle.model.specs.Before.{serial}
-use Rattle.model.specs.Cells.{CellKind, unordered_reads, left_read, right_read}
+use Rattle.model.specs.Accesses.{CellKind}
+use Rattle.model.specs.Cells.{unordered_reads, left_read, right_read}
 use Rattle.model.specs.Orders.{Order}
 use Rattle.model.specs.Reached.{Reached, OrderLaws}
 use Rattle.model.proofs.Shelf.Lists.{keep_in, keep_none, first_of_none, last_of_none}
 use Rattle.model.proofs.Shelf.Places.{at_lt}
-use Rattle.model.proofs.Readers.Sound.{Sound}
-use Rattle.model.proofs.Readers.Sorted.{first_is, first_gives, last_is, last_gives}
-use Rattle.model.proofs.Readers.Serial.{Serially, serially_irr, serially_trans, serial_sorted, serial_has}
+use Rattle.model.proofs.Linking.Sound.{Sound}
+use Rattle.model.proofs.Linking.Sorted.{first_is, first_gives, last_is, last_gives}
+use Rattle.model.proofs.Linking.Serial.{Serially, serially_irr, serially_trans, serial_sorted, serial_has}
 use Rattle.model.proofs.Orderings.Races.{unordered_of}
 
 module _ {C : Type 0} (k : CellKind C) where

@@ -12,8 +12,10 @@ use Rattle.model.specs.declared.Race.{Race}
 use Rattle.model.specs.Lists.{any, mem}
 use Rattle.model.specs.Past.{Past, at, actor, makes}
 use Rattle.model.specs.Before.{leads, before}
-use Rattle.model.specs.Cells.{CellKind, reads, writes, accesses, conflicts, last_write, reads_since, unordered_reads, left_read}
-use Rattle.model.specs.Cells.{right_read, is_access}
+use Rattle.model.specs.Accesses.{CellKind, reads, writes, accesses, conflicts}
+use Rattle.model.specs.Cells.{last_write, reads_since, unordered_reads, left_read}
+use Rattle.model.specs.Accesses.{is_access}
+use Rattle.model.specs.Cells.{right_read}
 use Rattle.model.specs.Rules.{Limits, race_with, race_of}
 use Rattle.model.specs.Laws.{Clean}
 use Rattle.model.specs.Orders.{Order}
@@ -22,13 +24,13 @@ use Rattle.model.proofs.Shelf.Tests.{or_l, or_r, tried, cond_yes, cond_no}
 use Rattle.model.proofs.Shelf.Lists.{any_of, any_in, mem_tail, keep_in, keep_of}
 use Rattle.model.proofs.Shelf.Places.{at_top, at_old, at_lt, at_case, at_grow}
 use Rattle.model.proofs.Shelf.Befores.{before_old, before_lt, before_lead, lead_before, before_trans}
-use Rattle.model.proofs.Readers.Sound.{Known, Sound, actor_known, child_known, clean_sound, clean_race}
-use Rattle.model.proofs.Readers.Steps
-use Rattle.model.proofs.Readers.Steps.{upto_case, upto_before, upto_trans, past_now, before_upto, steps_before, through_lead, now_through}
-use Rattle.model.proofs.Readers.Words.{at_keeper}
-use Rattle.model.proofs.Readers.Subtree.{earlier_upto}
-use Rattle.model.proofs.Readers.Serial
-use Rattle.model.proofs.Readers.Edges.{is_unordered, left_edge, right_edge}
+use Rattle.model.proofs.Linking.Sound.{Known, Sound, actor_known, child_known, clean_sound, clean_race}
+use Rattle.model.proofs.Linking.Steps
+use Rattle.model.proofs.Linking.Steps.{upto_case, upto_before, upto_trans, past_now, before_upto, steps_before, through_lead, now_through}
+use Rattle.model.proofs.Linking.Words.{at_keeper}
+use Rattle.model.proofs.Linking.Subtree.{earlier_upto}
+use Rattle.model.proofs.Linking.Serial
+use Rattle.model.proofs.Linking.Edges.{is_unordered, left_edge, right_edge}
 use Rattle.model.proofs.Orderings.Races.{reads_since_of, unordered_of}
 use Rattle.model.proofs.Orderings.Settles.{access_write, Ordered}
 
@@ -124,8 +126,8 @@ module _ {C : Type 0} (k : CellKind C) where
   by_write h e o c i w d x p q a wr l b = elim (cases_eq i w) [
     | inl z ↦ subst (λ y. T (before (e ∷ h) y (length h))) (sym z) b
     | inr n ↦ (
-        let in_order = o i w d x (omega arith) p q (access_write k c d x a wr) in
-        before_trans (e ∷ h) i w (length h) (subst T (sym (before_old h e i w (at_lt h w x q))) in_order) b)
+        let after_mark = o i w d x (omega arith) p q (access_write k c d x a wr) in
+        before_trans (e ∷ h) i w (length h) (subst T (sym (before_old h e i w (at_lt h w x q))) after_mark) b)
   ]
 
 module _ {C : Type 0} (k : CellKind C) (lim : ℕ) (laws : (limit : ℕ) (m : Order) → Reached limit m → OrderLaws m) where

@@ -6,11 +6,11 @@ use Rattle.model.specs.declared.Event.TheVariants.{Spawn, End, Open, Close, Read
 use Rattle.model.specs.declared.Race.{Race}
 use Rattle.model.specs.Lists.{mem, is_empty}
 use Rattle.model.specs.Past.{Past, at, actor, makes, own, innermost, made, ended, spawned_tasks, lived_in}
-use Rattle.model.specs.Cells.{CellKind}
-use Rattle.model.specs.Rules.{Limits, taken, judge, by_kind, race_of}
+use Rattle.model.specs.Accesses.{CellKind}
+use Rattle.model.specs.Rules.{Limits, taken, judge, first_tests, by_kind, race_of}
 use Rattle.model.specs.Laws.{Clean}
 use Rattle.model.proofs.Shelf.Places.{at_lt, at_case, at_any}
-use Rattle.model.proofs.Orderings.Races.{passes, first_tests, taken_race}
+use Rattle.model.proofs.Orderings.Races.{passes, taken_race}
 
 module _ {C : Type 0} (k : CellKind C) where
   -- a task that was made, or the first one

@@ -3,10 +3,10 @@ use Rattle.std.proofs.lemmas.Bool.Decides.{nat_tests}
 use Rattle.std.proofs.Common.{◌≡◌, ℕ, ◌+◌, ◌<◌, cond, eqb, [], ◌∷◌, length, arith}
 use Rattle.model.specs.declared.Event.{Event}
 use Rattle.model.specs.Past.{Past, actor}
-use Rattle.model.specs.Cells.{CellKind}
+use Rattle.model.specs.Accesses.{CellKind}
 use Rattle.model.specs.Orders.{Order}
 use Rattle.model.specs.Link.{order_of}
-use Rattle.model.proofs.Readers.Labels.{now, steps_grow, now_lt}
+use Rattle.model.proofs.Linking.PlaceSteps.{now, steps_grow, now_lt}
 
 module _ {C : Type 0} (k : CellKind C) (lim : ℕ) where
   -- the order that the keeper means after a past

@@ -1,15 +1,15 @@
 -- The keeper numbers tasks as they are made: each name has its own number, and the keeper's task is what the past says of it.
 use Rattle.std.proofs.lemmas.Bool.Decides.{nat_tests}
-use Rattle.std.proofs.Common.{◌≡◌, ℕ, ◌+◌, ◌≤◌, true, false, cond, eqb, [], ◌∷◌, refl, inl, inr, arith}
+use Rattle.std.proofs.Common.{◌≡◌, ℕ, ◌+◌, ◌≤◌, true, false, cond, eqb, [], ◌∷◌, length, refl, inl, inr, arith}
 use Rattle.std.proofs.lemmas.Bool.{cases_eq}
 use Rattle.model.specs.declared.Event.TheVariants.{Spawn, End, Open, Close, Read, Write}
-use Rattle.model.specs.Lists.{head_or, rest}
-use Rattle.model.specs.Past.{Past}
-use Rattle.model.specs.Cells.{CellKind}
-use Rattle.model.specs.Orders.{Order, Task, retask}
-use Rattle.model.specs.Link.{spawns, number, order_of}
+use Rattle.model.specs.Lists.{head_or, rest, put}
+use Rattle.model.specs.Past.{Past, spawned_tasks}
+use Rattle.model.specs.Accesses.{CellKind}
+use Rattle.model.specs.Orders.{Order, Task}
+use Rattle.model.specs.Link.{number, order_of}
 use Rattle.model.proofs.Shelf.Tests.{cond_ne}
-use Rattle.model.proofs.Readers.Sound.{Known, Sound}
+use Rattle.model.proofs.Linking.Sound.{Known, Sound}
 
 -- what a task is: made by the task x, on the step n
 abbrev pub child_task : ℕ → Task → Task
@@ -37,13 +37,13 @@ module _ {C : Type 0} (k : CellKind C) (lim : ℕ) where
   keeper h = order_of lim h
 
   -- numbers of tasks
-  pub number_le : (h : Past C) (u : ℕ) → number h u ≤ spawns h
+  pub number_le : (h : Past C) (u : ℕ) → number h u ≤ length (spawned_tasks h)
   number_le [] u = omega arith
   number_le (Spawn a v ∷ h) u = grind (arith, number_le h)
   number_le (e ∷ h) u = grind (arith, number_le h)
 
   -- and how many there are
-  pub tasks_is : (h : Past C) → (keeper h).tasks ≡ spawns h + 1
+  pub tasks_is : (h : Past C) → (keeper h).tasks ≡ length (spawned_tasks h) + 1
   tasks_is [] = refl
   tasks_is (Spawn a v ∷ h) = let p = tasks_is h in omega arith
   tasks_is (e ∷ h) = grind (arith, tasks_is h)
@@ -72,7 +72,7 @@ module _ {C : Type 0} (k : CellKind C) (lim : ℕ) where
   -- one task changed, by number and by name
   retask_tie : (h : Past C) (s : Sound k h) (t a : ℕ) (x y : Task) → Known k h t → Known k h a → x ≡ y
       → (keeper h).task (number h t) ≡ task_of h t
-      → retask (keeper h).task (number h a) x (number h t) ≡ cond (eqb t a) y (task_of h t)
+      → put (keeper h).task (number h a) x (number h t) ≡ cond (eqb t a) y (task_of h t)
   retask_tie h s t a x y p q e r = grind (arith, nat_tests, number_inj)
 
   pub task_of_is : (h : Past C) → Sound k h → (t : ℕ) → Known k h t → (keeper h).task (number h t) ≡ task_of h t
@@ -81,7 +81,7 @@ module _ {C : Type 0} (k : CellKind C) (lim : ℕ) where
     | inl tu ↦ grind (arith, nat_tests, task_of_is h, tasks_is)
     | inr n ↦ (
         let known_t = known_in h a u t p n in
-        let same = cond_ne t u (spawns h + 1) (number h t) n in
+        let same = cond_ne t u (length (spawned_tasks h) + 1) (number h t) n in
         grind (arith, nat_tests, task_of_is h, keeper, number_le, tasks_is, same, retask_tie))
   ]
   task_of_is (e ∷ h) s t p = grind (arith, nat_tests, task_of_is h, retask_tie)

@@ -8,21 +8,21 @@ use Rattle.std.proofs.lemmas.Bool.{cases_eq}
 use Rattle.model.specs.declared.Event.{Event}
 use Rattle.model.specs.declared.Event.TheVariants.{Spawn, End, Open, Close, Read, Write}
 use Rattle.model.specs.Past.{Past, at, actor, makes}
-use Rattle.model.specs.Cells.{CellKind}
+use Rattle.model.specs.Accesses.{CellKind}
 use Rattle.model.specs.Orders.{Order, earlier_with}
 use Rattle.model.specs.Reached.{Reached, OrderLaws}
 use Rattle.model.specs.Link.{number}
 use Rattle.model.proofs.Shelf.Tests.{or_l, or_r, tried, cond_eq, cond_ne}
 use Rattle.model.proofs.Shelf.Places.{at_old, at_lt, at_case}
-use Rattle.model.proofs.Readers.Sound.{Known, Good, Sound, stale, known_new, actor_known, child_known}
-use Rattle.model.proofs.Readers.Keeper.{known_in}
-use Rattle.model.proofs.Readers.Labels.{current_is, now_child, now_parent, now_open, now_close, now_end, now_other, now_lt}
-use Rattle.model.proofs.Readers.Labels.{spawn_new}
-use Rattle.model.proofs.Readers.Steps
-use Rattle.model.proofs.Readers.Steps.{upto_refl, upto_case, upto_trans, now_grows, upto_new, spawn_upto}
-use Rattle.model.proofs.Readers.Words.{at_keeper}
-use Rattle.model.proofs.Readers.DoneOn.{done_on_old, done_on_lt, goes_on_old}
-use Rattle.model.proofs.Readers.Earlier.{with_old, with_new, with_both}
+use Rattle.model.proofs.Linking.Sound.{Known, Good, Sound, stale, known_new, actor_known, child_known}
+use Rattle.model.proofs.Linking.Keeper.{known_in}
+use Rattle.model.proofs.Linking.PlaceSteps.{current_is, now_child, now_parent, now_open, now_close, now_end, now_other, now_lt}
+use Rattle.model.proofs.Linking.PlaceSteps.{spawn_new}
+use Rattle.model.proofs.Linking.Steps
+use Rattle.model.proofs.Linking.Steps.{upto_refl, upto_case, upto_trans, now_grows, upto_new, spawn_upto}
+use Rattle.model.proofs.Linking.Words.{at_keeper}
+use Rattle.model.proofs.Linking.DoneOn.{done_on_old, done_on_lt, goes_on_old}
+use Rattle.model.proofs.Linking.Earlier.{with_old, with_new, with_both}
 
 module _ {C : Type 0} where
   -- whether w is u, or was spawned by a task below u

@@ -7,27 +7,28 @@ use Rattle.model.specs.declared.Event.TheVariants.{Read, Write}
 use Rattle.model.specs.Lists.{any, keep, mem, first_of, last_of}
 use Rattle.model.specs.Past.{Past}
 use Rattle.model.specs.Before.{before, serial}
-use Rattle.model.specs.Cells.{CellKind, accesses, reads_since, unordered_reads, left_read, right_read}
-use Rattle.model.specs.Orders.{Order, at_or_before}
+use Rattle.model.specs.Accesses.{CellKind, accesses}
+use Rattle.model.specs.Cells.{reads_since, unordered_reads, left_read, right_read}
+use Rattle.model.specs.Orders.{Order, at_or_after}
 use Rattle.model.specs.Reached.{Reached, OrderLaws}
 use Rattle.model.specs.Link.{order_of, step_now, step_at}
 use Rattle.model.proofs.Shelf.Lists.{any_of, any_in, mem_head, mem_tail, mem_of, keep_in, keep_of, any_same, keep_same, keep_none}
 use Rattle.model.proofs.Shelf.Places.{at_lt}
 use Rattle.model.proofs.Shelf.Befores.{before_old, before_lt}
-use Rattle.model.proofs.Readers.Sound.{Sound}
-use Rattle.model.proofs.Readers.Labels.{now_lt}
-use Rattle.model.proofs.Readers.Steps
-use Rattle.model.proofs.Readers.Steps.{upto_case, upto_refl}
-use Rattle.model.proofs.Readers.Words.{at_keeper}
-use Rattle.model.proofs.Readers.DoneOn
-use Rattle.model.proofs.Readers.DoneOn.{done_on_old, done_on_lt}
-use Rattle.model.proofs.Readers.Subtree.{earlier_up}
-use Rattle.model.proofs.Readers.Access.{step_at_top, step_at_old, step_now_is}
-use Rattle.model.proofs.Readers.Serial
-use Rattle.model.proofs.Readers.Serial.{serially_trans}
-use Rattle.model.proofs.Readers.Edges.{is_unordered, unordered_lt, Edge, edge_same, Ahead, Behind, left_edge, right_edge}
-use Rattle.model.proofs.Readers.Marks.{is_latest, unordered_before, unordered_since, unordered_steps, between_one, access_upto, upto_access}
-use Rattle.model.proofs.Readers.Marks.{reads_access}
+use Rattle.model.proofs.Linking.Sound.{Sound}
+use Rattle.model.proofs.Linking.PlaceSteps.{now_lt}
+use Rattle.model.proofs.Linking.Steps
+use Rattle.model.proofs.Linking.Steps.{upto_case, upto_refl}
+use Rattle.model.proofs.Linking.Words.{at_keeper}
+use Rattle.model.proofs.Linking.DoneOn
+use Rattle.model.proofs.Linking.DoneOn.{done_on_old, done_on_lt}
+use Rattle.model.proofs.Linking.Subtree.{earlier_up}
+use Rattle.model.proofs.Linking.Access.{step_at_top, step_at_old, step_now_is}
+use Rattle.model.proofs.Linking.Serial
+use Rattle.model.proofs.Linking.Serial.{serially_trans}
+use Rattle.model.proofs.Linking.Edges.{is_unordered, unordered_lt, Edge, edge_same, Ahead, Behind, left_edge, right_edge}
+use Rattle.model.proofs.Linking.Marks.{is_latest, unordered_before, unordered_since, unordered_steps, between_one, access_upto, upto_access}
+use Rattle.model.proofs.Linking.Marks.{reads_access}
 use Rattle.model.proofs.Orderings.Races.{reads_since_of, unordered_of}
 
 module _ {C : Type 0} (k : CellKind C) (lim : ℕ) where
@@ -42,14 +43,14 @@ module _ {C : Type 0} (lim : ℕ) where
   abbrev pub next_left : Past C → ℕ → Option ℕ → Option ℕ
   next_left h t None = Some (length h)
   next_left h t (Some a) =
-      cond (at_or_before (order_of lim h) (step_now h t) (step_at h a)) (Some (length h))
+      cond (at_or_after (order_of lim h) (step_now h t) (step_at h a)) (Some (length h))
       (cond ((order_of lim h).earlier (step_at h a) (step_now h t)) (Some a) (Some (length h)))
 
   -- the right mark: the read, unless the mark stands later
   abbrev pub next_right : Past C → ℕ → Option ℕ → Option ℕ
   next_right h t None = Some (length h)
   next_right h t (Some a) =
-      cond (at_or_before (order_of lim h) (step_now h t) (step_at h a)) (Some (length h))
+      cond (at_or_after (order_of lim h) (step_now h t) (step_at h a)) (Some (length h))
       (cond ((order_of lim h).earlier (step_now h t) (step_at h a)) (Some a) (Some (length h)))
 
 module _ {C : Type 0} (k : CellKind C) (lim : ℕ) (laws : (limit : ℕ) (m : Order) → Reached limit m → OrderLaws m) where
@@ -230,14 +231,14 @@ module _ {C : Type 0} (k : CellKind C) (lim : ℕ) (laws : (limit : ℕ) (m : Or
           → (Upto h (done_on h a) here → o' ≡ Some (length h))
           → (T (test (done_on h a) here) → R' a (length h))
           → ((Upto h (done_on h a) here → ⊥) → (T (test (done_on h a) here) → ⊥) → R' (length h) a)
-          → o' ≡ cond (at_or_before (order_of lim h) (step_now h t) (step_at h a)) (Some (length h))
+          → o' ≡ cond (at_or_after (order_of lim h) (step_now h t) (step_at h a)) (Some (length h))
           (cond (test (step_at h a) (step_now h t)) (Some a) (Some (length h)))
       edge_next test a q on keeps else =
           let x = step_at h a in
           let y = step_now h t in
           let sx = step_done_on k lim h s.1 a (unordered_lt k h c a (move.old.some_of a q).0) in
           let sy = step_now_is k lim h s.1 t s.0.is_known in
-          let up = at_or_before (order_of lim h) y x in
+          let up = at_or_after (order_of lim h) y x in
           grind (arith, nat_tests, edge_keep, keeps, edge_new)
 
     -- both marks are edges
