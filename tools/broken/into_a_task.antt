@@ -1,22 +1,16 @@
 -- law: reached_orders_have_trees, labels
 -- file: Labels.antt
--- old: cond (x == y) (over a b) (nat_lt x y && not (odd x))
--- new: cond (x == y) (over a b) (nat_lt x y)
+-- old: over = parted (λ x y. nat_lt x y && not (odd x))
+-- new: over = parted nat_lt
 -- If a turn into a task puts a step before another, no labels tell a child from its spawner.
-use Rattle.std.proofs.Common.{◌≡◌, ℕ, ◌<◌, Bool, true, false, cond, ◌==◌, [], ◌∷◌, arith, refl, sym, ◌∙◌}
+use Rattle.std.proofs.Common.{◌≡◌, ℕ, ◌<◌, Bool, true, false, arith}
 use Rattle.model.specs.Orders.{Order, emptied, spawned}
 use Rattle.model.specs.Reached.{Reached, start, by_spawn}
-use Rattle.model.specs.Labels.{Label, left, over}
+use Rattle.model.specs.Labels.{left}
 use Rattle.model.specs.Trees.{Labelled, tree_of}
 
 abbrev m : Order
 m = spawned (emptied 9) 0
-
-left_over : (a b : Label) → over a b ≡ left a b
-left_over [] [] = refl
-left_over [] (y ∷ b) = refl
-left_over (x ∷ a) [] = refl
-left_over (x ∷ a) (y ∷ b) = rw (left_over a b) refl
 
 differ : (p : Bool) → false ≡ p → true ≡ p → ⊥
 differ p a b = cc
@@ -27,5 +21,5 @@ reached = by_spawn (emptied 9) 0 start tt
 broken : ((limit : ℕ) (m : Order) (r : Reached limit m) → Labelled m (tree_of r).step) → ⊥
 broken law =
     let lab = (tree_of reached).step in
-    differ (left (lab 1) (lab 2)) ((law 9 m reached).before_is 1 2 (omega arith) (omega arith) ∙ left_over (lab 1) (lab 2))
+    differ (left (lab 1) (lab 2)) ((law 9 m reached).before_is 1 2 (omega arith) (omega arith))
     ((law 9 m reached).earlier_is 1 2 (omega arith) (omega arith))

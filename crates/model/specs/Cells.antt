@@ -1,6 +1,6 @@
 -- What is kept of a cell: its last write, its left read and its right read.
 use Rattle.std.specs.Prelude.{ℕ, ◌+◌, Bool, cond, not, List, [], ◌∷◌, length, Some, None, Option}
-use Rattle.model.specs.Lists.{any, keep, mem, first_of, last_of, some_or}
+use Rattle.model.specs.Lists.{any, keep, mem, first_in, last_in, some_or}
 use Rattle.model.specs.Past.{Past}
 use Rattle.model.specs.Before.{before, serial}
 use Rattle.model.specs.Accesses.{CellKind, cell_of, reads, writes, accesses}
@@ -31,8 +31,8 @@ module _ {C : Type 0} (k : CellKind C) where
 
   -- the first of those in serial order
   abbrev pub left_read : Past C → C → Option ℕ
-  left_read h c = first_of (keep (λ i. mem i (unordered_reads h c)) (serial h))
+  left_read h c = first_in (keep (λ i. mem i (unordered_reads h c)) (serial h))
 
   -- the last of those in serial order
   abbrev pub right_read : Past C → C → Option ℕ
-  right_read h c = last_of (keep (λ i. mem i (unordered_reads h c)) (serial h))
+  right_read h c = last_in (keep (λ i. mem i (unordered_reads h c)) (serial h))

@@ -12,19 +12,21 @@ abbrev pub odd : ℕ → Bool
 odd ℕ.zero = false
 odd (suc n) = not (odd n)
 
--- where the labels part, a turns to the left of b; a label that b goes on from counts as to its left, but no two steps stand so
+-- what a test says of the two turns where the labels a and b part
+-- it counts as passed if a ends where b goes on, and as failed the other way round; no two steps have such labels
+abbrev pub parted : (ℕ → ℕ → Bool) → Label → Label → Bool
+parted test [] [] = false
+parted test [] (y ∷ b) = true
+parted test (x ∷ a) [] = false
+parted test (x ∷ a) (y ∷ b) = cond (x == y) (parted test a b) (test x y)
+
+-- where the labels part, a turns to the left of b
 abbrev pub left : Label → Label → Bool
-left [] [] = false
-left [] (y ∷ b) = true
-left (x ∷ a) [] = false
-left (x ∷ a) (y ∷ b) = cond (x == y) (left a b) (nat_lt x y)
+left = parted nat_lt
 
 -- where the labels part, a turns to the left of b, and not into a task
 abbrev pub over : Label → Label → Bool
-over [] [] = false
-over [] (y ∷ b) = true
-over (x ∷ a) [] = false
-over (x ∷ a) (y ∷ b) = cond (x == y) (over a b) (nat_lt x y && not (odd x))
+over = parted (λ x y. nat_lt x y && not (odd x))
 
 -- y is the node p, or lies under it
 abbrev pub Under : Label → Label → Type 0

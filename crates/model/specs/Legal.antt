@@ -1,7 +1,7 @@
 -- Legal orders of a past, and which write an access follows in them.
 use Rattle.std.specs.Prelude.{◌≡◌, ℕ, ◌<◌, Bool, false, cond, T, List, [], ◌∷◌, ◌++◌, length, Some, Option, ◌==◌}
 use Rattle.model.specs.declared.Event.{Event}
-use Rattle.model.specs.Lists.{keep, mem, first_of, some_or}
+use Rattle.model.specs.Lists.{keep, mem, first_in, some_or}
 use Rattle.model.specs.Past.{Past, at}
 use Rattle.model.specs.Before.{HappensBefore}
 use Rattle.model.specs.Accesses.{CellKind, writes, accesses}
@@ -39,7 +39,7 @@ pub record Beside {C : Type 0} (h : Past C) (a b : ℕ) : Type 0 where
 module _ {C : Type 0} (k : CellKind C) where
   -- the write of c that the access at i follows in an order: the last one ahead of it, if there is one
   abbrev pub follows : Past C → List ℕ → C → ℕ → Option ℕ
-  follows h o c i = first_of (keep (λ j. some_or (writes k c) false (at h j)) (part_ahead o i))
+  follows h o c i = first_in (keep (λ j. some_or (writes k c) false (at h j)) (part_ahead o i))
 
   -- each access follows the same write in every legal order, or none in every one
   abbrev pub Settled : Past C → Type 0

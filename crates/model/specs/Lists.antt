@@ -21,15 +21,15 @@ abbrev pub mem : ℕ → List ℕ → Bool
 mem n xs = any (nat_eq n) xs
 
 -- the first of them, if there is one
-abbrev pub first_of : List ℕ → Option ℕ
-first_of [] = None
-first_of (i ∷ is) = Some i
+abbrev pub first_in : List ℕ → Option ℕ
+first_in [] = None
+first_in (i ∷ is) = Some i
 
 -- the last of them
-abbrev pub last_of : List ℕ → Option ℕ
-last_of [] = None
-last_of (i ∷ []) = Some i
-last_of (i ∷ (j ∷ is)) = last_of (j ∷ is)
+abbrev pub last_in : List ℕ → Option ℕ
+last_in [] = None
+last_in (i ∷ []) = Some i
+last_in (i ∷ (j ∷ is)) = last_in (j ∷ is)
 
 -- the first of them, or d if there is none
 abbrev pub head_or : List ℕ → ℕ → ℕ

@@ -66,7 +66,7 @@ spawned m t =
       before = λ a b. cond (b == m.steps || b == m.steps + 1) (at_or_after m s a) (m.before a b);
       earlier = earlier_with m s 2;
       tasks = m.tasks + 1;
-      task = put (put m.task t (record { running = true; current = m.steps + 1; finishes = (m.task t).finishes }))
+      task = put (put m.task t (record (m.task t) { current = m.steps + 1 }))
           m.tasks (record { running = true; current = m.steps; finishes = f ∷ [] });
       lives = λ g u. (g == f && u == m.tasks) || m.lives g u;
     }
@@ -79,7 +79,7 @@ opened m t =
       steps = m.steps + 1;
       before = λ a b. cond (b == m.steps) (at_or_after m s a) (m.before a b);
       earlier = earlier_with m s 1;
-      task = put m.task t (record { running = true; current = m.steps; finishes = m.finishes ∷ (m.task t).finishes });
+      task = put m.task t (record (m.task t) { current = m.steps; finishes = m.finishes ∷ (m.task t).finishes });
       finishes = m.finishes + 1;
     }
 
@@ -93,7 +93,7 @@ closed m t =
       before = λ a b. cond (b == m.steps)
           (at_or_after m s a || any (λ l. m.last f l && at_or_after m l a) (below m.steps)) (m.before a b);
       earlier = earlier_with m s 1;
-      task = put m.task t (record { running = true; current = m.steps; finishes = rest (m.task t).finishes });
+      task = put m.task t (record (m.task t) { current = m.steps; finishes = rest (m.task t).finishes });
     }
 
 -- an end makes no step; the task leaves the finish it lives in, and its current step joins the last steps there
@@ -102,7 +102,7 @@ done m t =
     let s : ℕ = (m.task t).current in
     let f : ℕ = head_or (m.task t).finishes 0 in
     record m {
-      task = put m.task t (record { running = false; current = s; finishes = [] });
+      task = put m.task t (record (m.task t) { running = false; finishes = [] });
       lives = λ g u. not (u == t) && m.lives g u;
       last = λ g l. (g == f && l == s) || m.last g l;
     }

@@ -151,7 +151,7 @@ module _ {C : Type 0} (k : CellKind C) where
     count = length h;
   }
 
-  -- what can be said of an event from the parts alone
+  -- what can be said of an event from the parts alone, and the limit of events, which is the run's own
   abbrev pub judged : ℕ → Parts C → Event C → Answer C
   judged events p e =
       refusal ((nat_le events p.count, 10) ∷ (not (numbers_fit k e), 6) ∷ [])

@@ -1,13 +1,13 @@
 -- The first and the last of a cell's unordered reads in serial order, as one notion: an edge.
 use Rattle.std.proofs.Common.{◌≡◌, ℕ, ◌<◌, Bool, T, ◌⊎◌, List, [], length, Some, None, Option, refl, ap, ◌∙◌, subst, arith}
-use Rattle.model.specs.Lists.{mem, keep, first_of, last_of}
+use Rattle.model.specs.Lists.{mem, keep, first_in, last_in}
 use Rattle.model.specs.Past.{Past}
 use Rattle.model.specs.Before.{serial}
 use Rattle.model.specs.Accesses.{CellKind}
 use Rattle.model.specs.Cells.{unordered_reads, left_read, right_read}
 use Rattle.model.specs.Orders.{Order}
 use Rattle.model.specs.Reached.{Reached, OrderLaws}
-use Rattle.model.proofs.Shelf.Lists.{keep_in, keep_none, first_of_none, last_of_none}
+use Rattle.model.proofs.Shelf.Lists.{keep_in, keep_none, first_in_none, last_in_none}
 use Rattle.model.proofs.Shelf.Places.{at_lt}
 use Rattle.model.proofs.Linking.Sound.{Sound}
 use Rattle.model.proofs.Linking.Sorted.{first_is, first_gives, last_is, last_gives}
@@ -82,13 +82,13 @@ module _ {C : Type 0} (k : CellKind C) (lim : ℕ) (laws : (limit : ℕ) (m : Or
       let irr = serially_irr k lim laws h s in
       let trans = serially_trans k lim laws h s in
       let sorted = serial_sorted k lim laws h s in
-      edge_at (Ahead h) first_of h s c (λ i q. first_gives (Ahead h) irr trans (is_unordered k h c) (serial h) i sorted q)
-      (λ i f. first_is (Ahead h) irr trans (is_unordered k h c) (serial h) i sorted f.0 f.1 f.2) (first_of_none (listed h c)) refl
+      edge_at (Ahead h) first_in h s c (λ i q. first_gives (Ahead h) irr trans (is_unordered k h c) (serial h) i sorted q)
+      (λ i f. first_is (Ahead h) irr trans (is_unordered k h c) (serial h) i sorted f.0 f.1 f.2) (first_in_none (listed h c)) refl
 
   pub right_edge : (h : Past C) → Sound k h → (c : C) → Edge k (Behind h) h c (right_read k h c)
   right_edge h s c =
       let irr = serially_irr k lim laws h s in
       let trans = serially_trans k lim laws h s in
       let sorted = serial_sorted k lim laws h s in
-      edge_at (Behind h) last_of h s c (λ i q. last_gives (Ahead h) irr trans (is_unordered k h c) (serial h) i sorted q)
-      (λ i f. last_is (Ahead h) irr trans (is_unordered k h c) (serial h) i sorted f.0 f.1 f.2) (last_of_none (listed h c)) refl
+      edge_at (Behind h) last_in h s c (λ i q. last_gives (Ahead h) irr trans (is_unordered k h c) (serial h) i sorted q)
+      (λ i f. last_is (Ahead h) irr trans (is_unordered k h c) (serial h) i sorted f.0 f.1 f.2) (last_in_none (listed h c)) refl

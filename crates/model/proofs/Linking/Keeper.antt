@@ -17,19 +17,19 @@ child_task n x = record { running = true; current = n; finishes = head_or x.fini
 
 -- after a spawn of its own
 abbrev pub spawner_task : ℕ → Task → Task
-spawner_task n x = record { running = true; current = n; finishes = x.finishes }
+spawner_task n x = record x { current = n }
 
 -- after its end
 abbrev pub ended_task : Task → Task
-ended_task x = record { running = false; current = x.current; finishes = [] }
+ended_task x = record x { running = false; finishes = [] }
 
 -- after it opened the finish f
 abbrev pub opened_task : ℕ → ℕ → Task → Task
-opened_task n f x = record { running = true; current = n; finishes = f ∷ x.finishes }
+opened_task n f x = record x { current = n; finishes = f ∷ x.finishes }
 
 -- after it closed its innermost finish
 abbrev pub closed_task : ℕ → Task → Task
-closed_task n x = record { running = true; current = n; finishes = rest x.finishes }
+closed_task n x = record x { current = n; finishes = rest x.finishes }
 
 module _ {C : Type 0} (k : CellKind C) (lim : ℕ) where
   -- the order that the keeper means after a past

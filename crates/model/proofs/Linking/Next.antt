@@ -4,7 +4,7 @@ use Rattle.std.proofs.Common.{◌≡◌, ℕ, ◌<◌, Bool, cond, not, T, ◌�
 use lib.Dec.{not_T}
 use Rattle.model.specs.declared.Event.{Event}
 use Rattle.model.specs.declared.Event.TheVariants.{Read, Write}
-use Rattle.model.specs.Lists.{any, keep, mem, first_of, last_of}
+use Rattle.model.specs.Lists.{any, keep, mem, first_in, last_in}
 use Rattle.model.specs.Past.{Past}
 use Rattle.model.specs.Before.{before, serial}
 use Rattle.model.specs.Accesses.{CellKind, accesses}
@@ -312,7 +312,7 @@ module _ {C : Type 0} (k : CellKind C) where
   kept_write h t c = grind (arith, nat_tests, keep_none)
 
   pub left_after_write : (h : Past C) (t : ℕ) (c : C) → left_read k (Write t c ∷ h) c ≡ None
-  left_after_write h t c = ap first_of (kept_write h t c)
+  left_after_write h t c = ap first_in (kept_write h t c)
 
   pub right_after_write : (h : Past C) (t : ℕ) (c : C) → right_read k (Write t c ∷ h) c ≡ None
-  right_after_write h t c = ap last_of (kept_write h t c)
+  right_after_write h t c = ap last_in (kept_write h t c)

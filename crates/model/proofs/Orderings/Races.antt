@@ -18,7 +18,7 @@ use Rattle.model.specs.Rules.{first_tests, steps_held}
 use Rattle.model.specs.Legal.{Beside}
 use Rattle.model.specs.Laws.{RacedBy, of_kind}
 use Rattle.model.proofs.Shelf.Tests.{tried, cond_no}
-use Rattle.model.proofs.Shelf.Lists.{mem_of, keep_of, first_of_mem, last_of_mem}
+use Rattle.model.proofs.Shelf.Lists.{mem_of, keep_of, first_in_mem, last_in_mem}
 use Rattle.model.proofs.Shelf.Places.{behind_new, at_new, at_lt, at_grow}
 use Rattle.model.proofs.Shelf.Befores.{before_lt}
 use Rattle.model.proofs.Orderings.Legals.{beside}
@@ -123,10 +123,10 @@ module _ {C : Type 0} (k : CellKind C) where
   read_kept h c i m = unordered_of h c i (keep_of (λ j. mem j (unordered_reads k h c)) (serial h) i m).1
 
   pub left_read_of : (h : Past C) (c : C) (i : ℕ) → left_read k h c ≡ Some i → Stands (reads k) h c i
-  left_read_of h c i q = read_kept h c i (first_of_mem (keep (λ j. mem j (unordered_reads k h c)) (serial h)) i q)
+  left_read_of h c i q = read_kept h c i (first_in_mem (keep (λ j. mem j (unordered_reads k h c)) (serial h)) i q)
 
   pub right_read_of : (h : Past C) (c : C) (i : ℕ) → right_read k h c ≡ Some i → Stands (reads k) h c i
-  right_read_of h c i q = read_kept h c i (last_of_mem (keep (λ j. mem j (unordered_reads k h c)) (serial h)) i q)
+  right_read_of h c i q = read_kept h c i (last_in_mem (keep (λ j. mem j (unordered_reads k h c)) (serial h)) i q)
 
   pub sides : (kind : RaceKind) (c : C) (d e : Event C) → T (of_kind k kind c d e)
       → (T (writes k c d) × T (accesses k c e)) ⊎ (T (reads k c d) × T (writes k c e))

@@ -12,7 +12,7 @@ use Rattle.model.specs.Rules.{Limits}
 use Rattle.model.specs.Legal.{ahead, part_ahead, Legal, Settled}
 use Rattle.model.specs.Laws.{Clean, RacedBy}
 use Rattle.model.proofs.Shelf.Tests.{or_l, some_or_of, some_or_in, same_sym}
-use Rattle.model.proofs.Shelf.Lists.{keep_in, keep_of, first_of_mem}
+use Rattle.model.proofs.Shelf.Lists.{keep_in, keep_of, first_in_mem}
 use Rattle.model.proofs.Shelf.Places.{at_new, at_lt, at_grow}
 use Rattle.model.proofs.Shelf.Befores.{before_of}
 use Rattle.model.proofs.Orderings.Legals.{legal_apart, legal_asym}
@@ -61,7 +61,7 @@ module _ {C : Type 0} (k : CellKind C) where
     writes_top : (i : ℕ) (c : C) → Top (keep (writes_at h c) (part_ahead o i))
     writes_top i c x y f m =
         let a = keep_of (writes_at h c) (part_ahead o i) y m in
-        let b = keep_of (writes_at h c) (part_ahead o i) x (first_of_mem (keep (writes_at h c) (part_ahead o i)) x f) in
+        let b = keep_of (writes_at h c) (part_ahead o i) x (first_in_mem (keep (writes_at h c) (part_ahead o i)) x f) in
         let s = some_or_of (writes k c) (at h x) b.1 in
         elim (first_top (writes_at h c) (part_ahead o i) x y f a.0 a.1) [
           | inl g ↦ omega arith

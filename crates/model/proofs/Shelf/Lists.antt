@@ -1,7 +1,7 @@
 -- Lists of numbers: who stands in one, which of them pass a test, and the numbers below n.
 use Rattle.std.proofs.lemmas.Bool.Decides.{nat_tests}
 use Rattle.std.proofs.Common.{◌≡◌, ℕ, zero, suc, ◌<◌, Bool, T, ◌⊎◌, List, [], ◌∷◌, ◌++◌, length, Some, None, refl, ap, subst, inl, inr, arith}
-use Rattle.model.specs.Lists.{any, keep, flat, mem, below, first_of, last_of}
+use Rattle.model.specs.Lists.{any, keep, flat, mem, below, first_in, last_in}
 
 pub mem_head : (x : ℕ) (xs : List ℕ) → T (mem x (x ∷ xs))
 mem_head x xs = grind arith
@@ -96,20 +96,20 @@ pub any_below_in : (p : ℕ → Bool) (n x : ℕ) → x < n → T (p x) → T (a
 any_below_in p n x l t = any_in p (below n) x (below_in n x l) t
 
 -- the first and the last of a list stand in it
-pub first_of_mem : (xs : List ℕ) (i : ℕ) → first_of xs ≡ Some i → T (mem i xs)
-first_of_mem [] i e = cc
-first_of_mem (x ∷ xs) i e = grind arith
+pub first_in_mem : (xs : List ℕ) (i : ℕ) → first_in xs ≡ Some i → T (mem i xs)
+first_in_mem [] i e = cc
+first_in_mem (x ∷ xs) i e = grind arith
 
-pub last_of_mem : (xs : List ℕ) (i : ℕ) → last_of xs ≡ Some i → T (mem i xs)
-last_of_mem [] i e = cc
-last_of_mem (x ∷ []) i e = grind arith
-last_of_mem (x ∷ (y ∷ xs)) i e = mem_tail i x (y ∷ xs) (last_of_mem (y ∷ xs) i e)
+pub last_in_mem : (xs : List ℕ) (i : ℕ) → last_in xs ≡ Some i → T (mem i xs)
+last_in_mem [] i e = cc
+last_in_mem (x ∷ []) i e = grind arith
+last_in_mem (x ∷ (y ∷ xs)) i e = mem_tail i x (y ∷ xs) (last_in_mem (y ∷ xs) i e)
 
-pub first_of_none : (xs : List ℕ) → first_of xs ≡ None → (i : ℕ) → T (mem i xs) → ⊥
-first_of_none [] e i m = m
-first_of_none (x ∷ xs) e i m = cc
+pub first_in_none : (xs : List ℕ) → first_in xs ≡ None → (i : ℕ) → T (mem i xs) → ⊥
+first_in_none [] e i m = m
+first_in_none (x ∷ xs) e i m = cc
 
-pub last_of_none : (xs : List ℕ) → last_of xs ≡ None → (i : ℕ) → T (mem i xs) → ⊥
-last_of_none [] e i m = m
-last_of_none (x ∷ []) e i m = cc
-last_of_none (x ∷ (y ∷ xs)) e i m = last_of_none (y ∷ xs) e y (mem_head y xs)
+pub last_in_none : (xs : List ℕ) → last_in xs ≡ None → (i : ℕ) → T (mem i xs) → ⊥
+last_in_none [] e i m = m
+last_in_none (x ∷ []) e i m = cc
+last_in_none (x ∷ (y ∷ xs)) e i m = last_in_none (y ∷ xs) e y (mem_head y xs)

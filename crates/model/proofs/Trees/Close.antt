@@ -31,7 +31,7 @@ module _ (m : Order) (lab node : ℕ → Label) (by owner : ℕ → ℕ) (sh : S
 
   -- the task t after the close
   abbrev own : Task
-  own = record { running = true; current = m.steps; finishes = g ∷ fs }
+  own = record (m.task t) { current = m.steps; finishes = g ∷ fs }
 
   own_fresh : Fresh m 1 own.current
   own_fresh = (omega arith, omega arith)
@@ -194,10 +194,10 @@ module _ (m : Order) (lab node : ℕ → Label) (by owner : ℕ → ℕ) (sh : S
 
     -- the task after the close, as `closed` says it
     abbrev closed_task : Task
-    closed_task = record { running = true; current = m.steps; finishes = rest (m.task t).finishes }
+    closed_task = record (m.task t) { current = m.steps; finishes = rest (m.task t).finishes }
 
     closed_own : closed_task ≡ own
-    closed_own = ap {B = Task} (λ w. record { running = true; current = m.steps; finishes = rest w }) fin
+    closed_own = ap {B = Task} (λ w. record (m.task t) { current = m.steps; finishes = rest w }) fin
 
     runs_on : (u : ℕ) → T (n.task u).running → Runner n lab node by owner u (n.task u)
     runs_on u =
@@ -228,16 +228,16 @@ module _ (m : Order) (lab node : ℕ → Label) (by owner : ℕ → ℕ) (sh : S
       where
         inner : x < m.steps → (y : ℕ) → Above y h (f ∷ (g ∷ fs)) → Under (node y) (lab x) → Covered n lab node h x
         inner l y (inl (e, i)) u =
-            own_joined sh run close_spot close_adds own tt own_fresh task_own task_other h x i
+            own_joined sh run close_spot close_adds own run own_fresh task_own task_other h x i
             (close_spot.joined_in x l (subst (λ w. Under w (lab x)) (ap node e ∙ at_f) u))
-        inner l y (inr a) u = own_inner sh run close_spot close_adds own tt own_fresh task_own task_other h x y a u
+        inner l y (inr a) u = own_inner sh run close_spot close_adds own run own_fresh task_own task_other h x y a u
 
         mine : Fresh m 1 x → In h (g ∷ fs) → Covered n lab node h x
-        mine (l, k) i = own_here sh run close_spot close_adds own tt own_fresh task_own task_other h x i (omega arith)
+        mine (l, k) i = own_here sh run close_spot close_adds own run own_fresh task_own task_other h x i (omega arith)
 
         split : OpenBefore h → Covered n lab node h x
         split (d, (u, on, o)) =
-            cover sh run close_spot close_adds own tt own_fresh task_own task_other h x u on o b c
+            cover sh run close_spot close_adds own run own_fresh task_own task_other h x u on o b c
             (still_in h d) (λ l y a. inner l y (subst (Above y h) fin a)) (λ l i. mine l (still_in h d i))
 
     pub close_shape : Shape (closed m t) lab node by owner

@@ -1,6 +1,6 @@
 -- An open keeps the shape: past the current step comes the node of the new finish, and the new step is the first one under it.
 use Rattle.std.proofs.lemmas.Bool.Decides.{nat_tests}
-use Rattle.std.proofs.Common.{◌≡◌, ℕ, suc, ◌<◌, ◌≤◌, true, not, T, ◌⊎◌, List, [], ◌∷◌, ◌++◌, sym, refl, ap, ◌∙◌, subst, inl, inr, append_assoc, arith}
+use Rattle.std.proofs.Common.{◌≡◌, ℕ, suc, ◌<◌, ◌≤◌, not, T, ◌⊎◌, List, [], ◌∷◌, ◌++◌, sym, refl, ap, ◌∙◌, subst, inl, inr, append_assoc, arith}
 use Rattle.std.proofs.lemmas.Bool.{cases_lt}
 use Rattle.model.specs.Orders.{Order, Task, at_or_after, opened}
 use Rattle.model.specs.Labels.{Label, odd, Under, Low}
@@ -36,7 +36,7 @@ module _ (m : Order) (lab node : ℕ → Label) (by owner : ℕ → ℕ) (sh : S
       (by_own : by m.steps ≡ t) (owner_own : owner m.finishes ≡ t) where
     -- the task t after the open
     abbrev own : Task
-    own = record { running = true; current = m.steps; finishes = m.finishes ∷ (m.task t).finishes }
+    own = record (m.task t) { current = m.steps; finishes = m.finishes ∷ (m.task t).finishes }
 
     own_fresh : Fresh m 1 own.current
     own_fresh = (omega arith, omega arith)
@@ -110,7 +110,7 @@ module _ (m : Order) (lab node : ℕ → Label) (by owner : ℕ → ℕ) (sh : S
     was_open v f = grind arith
 
     own_task : (f x : ℕ) → Fresh m 1 x → In f own.finishes → Covered n lab node f x
-    own_task f x (h, k) i = own_here sh run place open_adds own tt own_fresh task_own task_other f x i (omega arith)
+    own_task f x (h, k) i = own_here sh run place open_adds own run own_fresh task_own task_other f x i (omega arith)
 
     cover_all : (v f x : ℕ) → T (n.task v).running → In f (n.task v).finishes → x < n.steps → Under (node f) (lab x)
         → Covered n lab node f x
@@ -123,8 +123,8 @@ module _ (m : Order) (lab node : ℕ → Label) (by owner : ℕ → ℕ) (sh : S
         split (inl e) (inl l) = absurd (none_yet e l)
         split (inl e) (inr l) = own_task f x (l, h) (inl e)
         split (inr (u, on, w)) c =
-            cover sh run place open_adds own tt own_fresh task_own task_other f x u on w h k inr
-            (λ l y a. own_inner sh run place open_adds own tt own_fresh task_own task_other f x y (inr a))
+            cover sh run place open_adds own run own_fresh task_own task_other f x u on w h k inr
+            (λ l y a. own_inner sh run place open_adds own run own_fresh task_own task_other f x y (inr a))
             (λ l i. own_task f x l (inr i))
 
     node_apart : (f g : ℕ) → f < n.finishes → g < n.finishes → node f ≡ node g → f ≡ g

@@ -29,7 +29,7 @@ module _ (m : Order) (lab node : ℕ → Label) (by owner : ℕ → ℕ) (sh : S
       (by_child : by m.steps ≡ m.tasks) (by_own : by (m.steps + 1) ≡ t) where
     -- the task t after the spawn
     abbrev own : Task
-    own = record { running = true; current = m.steps + 1; finishes = (m.task t).finishes }
+    own = record (m.task t) { current = m.steps + 1 }
 
     -- its child, the new task
     abbrev child : Task
@@ -151,7 +151,7 @@ module _ (m : Order) (lab node : ℕ → Label) (by owner : ℕ → ℕ) (sh : S
     was_open v f = grind arith
 
     inside : (f x g : ℕ) → Above g f (m.task t).finishes → Under (node g) (lab x) → Covered n lab node f x
-    inside = own_inner sh run place spawn_adds own tt own_fresh task_own task_other
+    inside = own_inner sh run place spawn_adds own run own_fresh task_own task_other
 
     -- the innermost finish covers the child's step by the child, the others by the innermost one
     cover_new : (f x : ℕ) → Slot here.path here.turn (lab x) → (x ≡ m.steps) ⊎ (x ≡ m.steps + 1) → In f (m.task t).finishes
@@ -163,13 +163,13 @@ module _ (m : Order) (lab node : ℕ → Label) (by owner : ℕ → ℕ) (sh : S
         split (inr a) =
             inside f x inner a
             (subst (Under (node inner)) (sym z.3) (under_more (node inner) here.path (z.0 ∷ z.1) inner_over))
-    cover_new f x z (inr e) i = own_here sh run place spawn_adds own tt own_fresh task_own task_other f x i e
+    cover_new f x z (inr e) i = own_here sh run place spawn_adds own run own_fresh task_own task_other f x i e
 
     cover_all : (v f x : ℕ) → T (n.task v).running → In f (n.task v).finishes → x < n.steps → Under (node f) (lab x)
         → Covered n lab node f x
     cover_all v f x go o h k =
         let w = was_open v f go o in
-        cover sh run place spawn_adds own tt own_fresh task_own task_other f x w.0 w.1 w.2 h k (λ i. i) (λ l. inside f x)
+        cover sh run place spawn_adds own run own_fresh task_own task_other f x w.0 w.1 w.2 h k (λ i. i) (λ l. inside f x)
         (λ l. cover_new f x (new_slot x l) (one_of_two x l))
 
     pub spawn_shape : Shape (spawned m t) lab node by owner
