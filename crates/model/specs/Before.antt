@@ -50,6 +50,6 @@ abbrev pub written : {C : Type 0} → ℕ → Past C → ℕ → List ℕ
 written ℕ.zero h t = []
 written (suc n) h t = flat (λ i. i ∷ some_or (λ e. some_or (written n h) [] (child e)) [] (at h i)) (of_task t h)
 
--- serial order: task 0 written out
+-- serial order: task 0 written out; the bound is never met (`serial_once` of `Link`: each place is in it once)
 abbrev pub serial : {C : Type 0} → Past C → List ℕ
 serial h = written (suc (length h)) h 0

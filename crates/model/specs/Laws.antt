@@ -25,7 +25,7 @@ module _ {C : Type 0} (k : CellKind C) (l : Limits) where
   Clean [] = Unit {0}
   Clean (e ∷ h) = (judge k l h e ≡ taken None) × Clean h
 
-  -- the latest event made the race r, and all before it is clean
+  -- raced: the latest event made the race r, and all before it is clean
   abbrev pub RacedBy : Past C → Race C → Type 0
   RacedBy [] r = ⊥
   RacedBy (e ∷ h) r = (judge k l h e ≡ taken (Some r)) × Clean h

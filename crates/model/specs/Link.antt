@@ -38,11 +38,12 @@ step_now h t = ((order_of 0 h).task (number h t)).current
 abbrev pub step_at : {C : Type 0} → Past C → ℕ → ℕ
 step_at h i = some_or (λ e. step_now (behind h i) (actor e)) 0 (at h i)
 
--- in a list, the first first: how often i is in it, and whether i stands ahead of j
+-- how often i is in a list
 abbrev pub count : ℕ → List ℕ → ℕ
 count i [] = 0
 count i (x ∷ xs) = cond (i == x) 1 0 + count i xs
 
+-- i stands ahead of j in a list with the earliest first, as serial order is
 abbrev pub stands : List ℕ → ℕ → ℕ → Bool
 stands [] i j = false
 stands (x ∷ xs) i j = cond (x == i) (mem j xs) (stands xs i j)
@@ -60,6 +61,6 @@ pub record Linked {C : Type 0} (limit : ℕ) (h : Past C) : Type 0 where
   pub serial_is : (i j : ℕ) → i < length h → j < length h
       → T (stands (serial h) i j) ↔ (T ((order_of limit h).earlier (step_at h i) (step_at h j)) ⊎ ((step_at h i ≡ step_at h j) × (i < j)))
 
--- steps tell of events
+-- the order after a past with an outcome tells of its events
 abbrev pub StepsTell : {C : Type 0} → CellKind C → Limits → Type 0
 StepsTell {C} k l = (h : Past C) (m : Option (Race C)) → Outcome k l h m → Linked l.steps h

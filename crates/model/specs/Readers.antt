@@ -28,14 +28,15 @@ TwoSuffice m = (rs : List ℕ) (l r s : ℕ) → Leftmost m rs l → Rightmost m
 abbrev pub moves_left : Order → ℕ → ℕ → Bool
 moves_left m s l = at_or_after m s l || m.earlier s l
 
--- and of the rightmost one, on r: likewise, or later in serial order
+-- a read on the step s takes the place of the rightmost one, on r: s is or comes after r, or is later in serial order
 abbrev pub moves_right : Order → ℕ → ℕ → Bool
 moves_right m s r = at_or_after m s r || m.earlier r s
 
--- the leftmost and the rightmost after one more read, on the step s
+-- the leftmost one after one more read, on the step s
 abbrev pub left_with : Order → ℕ → ℕ → ℕ
 left_with m s l = cond (moves_left m s l) s l
 
+-- the rightmost one after one more read, on the step s
 abbrev pub right_with : Order → ℕ → ℕ → ℕ
 right_with m s r = cond (moves_right m s r) s r
 

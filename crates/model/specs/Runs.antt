@@ -132,7 +132,7 @@ module _ {C : Type 0} (k : CellKind C) (o : Opening) where
     pub clean_settled : (race_named cs ≡ None) ↔ Settled k (past_of cs)
     -- law 2
     pub race_real : (r : Race C) → race_named cs ≡ Some r → Real k o.limits (past_of cs) r
-    -- law 3, on an emptied run with the same job and limits
+    -- law 3, on a newly opened run with the same job and limits
     pub any_order : race_named cs ≡ None → (p : List ℕ) → Legal (past_of cs) p
         → (length (arranged (past_of cs) p) ≡ length (past_of cs))
         × (replies (all_fed (arranged (past_of cs) p)) ≡ each_took (arranged (past_of cs) p))
