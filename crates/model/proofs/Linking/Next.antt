@@ -1,6 +1,6 @@
 -- How one event changes the marks of a cell.
 use Rattle.std.proofs.lemmas.Bool.Decides.{nat_tests}
-use Rattle.std.proofs.Common.{◌≡◌, ℕ, ◌<◌, Bool, cond, not, T, ◌⊎◌, [], ◌∷◌, length, Some, None, Option, sym, refl, ap, ◌∙◌, subst, subst₂, inl, inr, arith, T_not}
+use Rattle.std.proofs.Common.{◌≡◌, ℕ, ◌<◌, Bool, cond, not, ◌||◌, T, ◌⊎◌, [], ◌∷◌, length, Some, None, Option, sym, refl, ap, ◌∙◌, subst, subst₂, inl, inr, arith, T_not}
 use lib.Dec.{not_T}
 use Rattle.model.specs.declared.Event.{Event}
 use Rattle.model.specs.declared.Event.TheVariants.{Read, Write}
@@ -10,6 +10,7 @@ use Rattle.model.specs.Before.{before, serial}
 use Rattle.model.specs.Accesses.{CellKind, accesses}
 use Rattle.model.specs.Cells.{reads_since, unordered_reads, left_read, right_read}
 use Rattle.model.specs.Orders.{Order, at_or_after}
+use Rattle.model.specs.Readers.{moves_left, moves_right}
 use Rattle.model.specs.Reached.{Reached, OrderLaws}
 use Rattle.model.specs.Link.{order_of, step_now, step_at}
 use Rattle.model.proofs.Shelf.Lists.{any_of, any_in, mem_head, mem_tail, mem_of, keep_in, keep_of, any_same, keep_same, keep_none}
@@ -39,19 +40,15 @@ module _ {C : Type 0} (k : CellKind C) (lim : ℕ) where
 
 -- the marks that an implementation keeps, by steps
 module _ {C : Type 0} (lim : ℕ) where
-  -- the left mark after a read by t on the past h: the read, unless the mark stands earlier and is not up to it
+  -- the left mark after a read by t on the past h
   abbrev pub next_left : Past C → ℕ → Option ℕ → Option ℕ
   next_left h t None = Some (length h)
-  next_left h t (Some a) =
-      cond (at_or_after (order_of lim h) (step_now h t) (step_at h a)) (Some (length h))
-      (cond ((order_of lim h).earlier (step_at h a) (step_now h t)) (Some a) (Some (length h)))
+  next_left h t (Some a) = cond (moves_left (order_of lim h) (step_now h t) (step_at h a)) (Some (length h)) (Some a)
 
-  -- the right mark: the read, unless the mark stands later
+  -- the right mark
   abbrev pub next_right : Past C → ℕ → Option ℕ → Option ℕ
   next_right h t None = Some (length h)
-  next_right h t (Some a) =
-      cond (at_or_after (order_of lim h) (step_now h t) (step_at h a)) (Some (length h))
-      (cond ((order_of lim h).earlier (step_now h t) (step_at h a)) (Some a) (Some (length h)))
+  next_right h t (Some a) = cond (moves_right (order_of lim h) (step_now h t) (step_at h a)) (Some (length h)) (Some a)
 
 module _ {C : Type 0} (k : CellKind C) (lim : ℕ) (laws : (limit : ℕ) (m : Order) → Reached limit m → OrderLaws m) where
   open at_keeper k lim use {keeper, now, done_on, Upto, StepEarlier}
@@ -226,20 +223,20 @@ module _ {C : Type 0} (k : CellKind C) (lim : ℕ) (laws : (limit : ℕ) (m : Or
             ],
           )
 
-      -- so it moves by steps alone, where a test of two steps tells R' of the edge and the read
+      -- so it moves by steps alone, where a test of two steps tells R' of the read and the edge
       edge_next : (test : ℕ → ℕ → Bool) (a : ℕ) → o ≡ Some a
           → (Upto h (done_on h a) here → o' ≡ Some (length h))
-          → (T (test (done_on h a) here) → R' a (length h))
-          → ((Upto h (done_on h a) here → ⊥) → (T (test (done_on h a) here) → ⊥) → R' (length h) a)
-          → o' ≡ cond (at_or_after (order_of lim h) (step_now h t) (step_at h a)) (Some (length h))
-          (cond (test (step_at h a) (step_now h t)) (Some a) (Some (length h)))
-      edge_next test a q on keeps else =
+          → (T (test here (done_on h a)) → R' (length h) a)
+          → ((Upto h (done_on h a) here → ⊥) → (T (test here (done_on h a)) → ⊥) → R' a (length h))
+          → o' ≡ cond (at_or_after (order_of lim h) (step_now h t) (step_at h a) || test (step_now h t) (step_at h a))
+          (Some (length h)) (Some a)
+      edge_next test a q on moves else =
           let x = step_at h a in
           let y = step_now h t in
           let sx = step_done_on k lim h s.1 a (unordered_lt k h c a (move.old.some_of a q).0) in
           let sy = step_now_is k lim h s.1 t s.0.is_known in
           let up = at_or_after (order_of lim h) y x in
-          grind (arith, nat_tests, edge_keep, keeps, edge_new)
+          grind (arith, nat_tests, edge_keep, moves, edge_new)
 
     -- both marks are edges
     left_move : EdgeMove (Ahead k lim laws h) (Ahead k lim laws h') (left_read k h c) (left_read k h' c)
@@ -283,9 +280,9 @@ module _ {C : Type 0} (k : CellKind C) (lim : ℕ) (laws : (limit : ℕ) (m : Or
     left_go (Some a) q =
         let m = (left_move.old.some_of a q).0 in
         let la = unordered_lt k h c a m in
-        edge_next left_move (keeper h).earlier a q (left_up a q) (serially_top a la) (λ n w. elim (split a m n) [
-          | inl z ↦ absurd (w z)
-          | inr z ↦ top_serially a la z
+        edge_next left_move (keeper h).earlier a q (left_up a q) (top_serially a la) (λ n w. elim (split a m n) [
+          | inl z ↦ serially_top a la z
+          | inr z ↦ absurd (w z)
         ])
 
     right_go : (o : Option ℕ) → right_read k h c ≡ o → right_read k h' c ≡ next_right lim h t o
@@ -294,9 +291,9 @@ module _ {C : Type 0} (k : CellKind C) (lim : ℕ) (laws : (limit : ℕ) (m : Or
         let m = (right_move.old.some_of a q).0 in
         let la = unordered_lt k h c a m in
         edge_next right_move (λ x y. (keeper h).earlier y x) a q
-        (λ u. edge_new right_move a q (upto_top a la u)) (top_serially a la) (λ n w. elim (split a m n) [
-          | inl z ↦ serially_top a la z
-          | inr z ↦ absurd (w z)
+        (λ u. edge_new right_move a q (upto_top a la u)) (serially_top a la) (λ n w. elim (split a m n) [
+          | inl z ↦ absurd (w z)
+          | inr z ↦ top_serially a la z
         ])
 
     -- a read moves the marks of its cell by steps alone

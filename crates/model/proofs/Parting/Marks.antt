@@ -1,21 +1,20 @@
 -- How an event changes the history of a cell.
-use Rattle.std.proofs.Math.Facts.{yes_eqb}
 use Rattle.std.proofs.lemmas.Bool.Decides.{nat_tests}
-use Rattle.std.proofs.Common.{◌≡◌, ℕ, ◌<◌, Bool, true, false, cond, ◌||◌, T, eqb, ◌⊎◌, ◌∷◌, length, Some, None, Option, sym, refl, ap, ◌∙◌, inl, inr, arith}
+use Rattle.std.proofs.Common.{◌≡◌, ℕ, ◌<◌, Bool, true, false, cond, T, ◌∷◌, length, Some, None, Option, sym, refl, ap, ◌∙◌, arith}
 use Rattle.model.specs.declared.Event.{Event}
 use Rattle.model.specs.declared.Event.TheVariants.{Read, Write}
 use Rattle.model.specs.declared.Mark.{Mark}
 use Rattle.model.specs.Past.{Past, actor}
 use Rattle.model.specs.Accesses.{CellKind, reads, writes, accesses}
 use Rattle.model.specs.Cells.{last_write, left_read, right_read}
-use Rattle.model.specs.Orders.{Order, at_or_after}
+use Rattle.model.specs.Orders.{Order}
+use Rattle.model.specs.Readers.{moves_left, moves_right}
 use Rattle.model.specs.Link.{order_of, number, step_now, step_at}
 use Rattle.model.specs.Parts.{mark_at, history_of, new_left, new_right, after_read, after_write}
-use Rattle.model.proofs.Shelf.Tests.{or_l, or_r, cond_yes, cond_no}
+use Rattle.model.proofs.Shelf.Tests.{or_r, cond_yes, cond_no}
 use Rattle.model.proofs.Shelf.Places.{at_lt}
 use Rattle.model.proofs.Linking.Sound.{Known, Sound}
 use Rattle.model.proofs.Linking.PlaceSteps.{current_is, now_lt}
-use Rattle.model.proofs.Linking.Steps.{law}
 use Rattle.model.proofs.Linking.Access.{limit_free}
 use Rattle.model.proofs.Linking.Next.{step_done_on, next_left, next_right, left_other, right_other}
 use Rattle.model.proofs.Linking.Next.{left_after_read, right_after_read, left_after_write, right_after_write}
@@ -24,15 +23,7 @@ use Rattle.model.proofs.Parting.Words.{history_ext, mark_step}
 use Rattle.model.proofs.Parting.Cells.{Accessed, write_place, left_place, right_place}
 use Rattle.model.proofs.Linking.DoneOn.{done_on_lt}
 
--- the new mark or the old one, by the two forms of the test
-pick : {A : Type 0} (b w v : Bool) (new old : A)
-    → (T w → T v → ⊥) → ((T b → ⊥) → T w ⊎ T v) → cond b new (cond w old new) ≡ cond (b || v) new old
-pick true w v new old f g = refl
-pick false true true new old f g = absurd (f tt tt)
-pick false true false new old f g = refl
-pick false false true new old f g = refl
-pick false false false new old f g = elim (g (λ z. z)) [ inl z ↦ absurd z | inr z ↦ absurd z ]
-
+-- what F makes of one of two
 pushed : {A B : Type 0} (F : A → Option B) (b : Bool) (x y : A) (u v : B) → F x ≡ Some u → F y ≡ Some v → F (cond b x y) ≡ Some (cond b u v)
 pushed F true x y u v p q = p
 pushed F false x y u v p q = q
@@ -68,24 +59,13 @@ module _ {C : Type 0} (k : CellKind C) (lim : ℕ) where
       (ap (mark_at (e ∷ h)) (left_other k lim reached_laws h e j s n) ∙ mark_old h e (left_read k h j) (left_place k h j))
       (ap (mark_at (e ∷ h)) (right_other k lim reached_laws h e j s n) ∙ mark_old h e (right_read k h j) (right_place k h j))
 
-  -- two steps that the order holds, neither of them up to the other, are in serial order one way or the other
+  -- the step of a place, and the step that a task is on, are held
   module _ (h : Past C) (s : Sound k h) where
     pub step_held : (i : ℕ) → i < length h → step_at h i < (mo h).steps
     step_held i b = let x = step_done_on k lim h s i b in let y = done_on_lt k lim h i b in omega arith
 
     pub cur_held : (t : ℕ) → Known k h t → cur h t < (mo h).steps
     cur_held t q = let x = current_is k lim h s t q in let y = now_lt k lim h t in omega arith
-
-    one_way : (a b : ℕ) → T ((mo h).earlier a b) → T ((mo h).earlier b a) → ⊥
-    one_way a b p q = (law k lim reached_laws h s).earlier_irrefl a ((law k lim reached_laws h s).earlier_trans a b a p q)
-
-    some_way : (a b : ℕ) → a < (mo h).steps → b < (mo h).steps
-        → (T (at_or_after (mo h) b a) → ⊥) → T ((mo h).earlier a b) ⊎ T ((mo h).earlier b a)
-    some_way a b p q n = (law k lim reached_laws h s).earlier_total a b p q (λ z. n (or_l (eqb a b) ((mo h).before a b) (yes_eqb z)))
-
-  swap : {A B : Type 0} → A ⊎ B → B ⊎ A
-  swap (inl a) = inr a
-  swap (inr b) = inl b
 
   module _ (h : Past C) (t : ℕ) (c : C) (s : Sound k (Read t c ∷ h)) where
     -- the order that the read finds
@@ -104,31 +84,20 @@ module _ {C : Type 0} (k : CellKind C) (lim : ℕ) where
     abbrev old : ℕ → Mark
     old a = record { step = step_at h a; place = a }
 
-    -- where a mark at a is to stand for a reader on the step y: at a, if the step of a is not up to y and w says that it stays
-    abbrev stood : ℕ → (ℕ → Bool) → ℕ → Option ℕ
-    stood a w y = cond (at_or_after m y (step_at h a)) (Some (length h)) (cond (w y) (Some a) (Some (length h)))
-
-    -- the new mark or the old one, where w says that a stays and v that it goes
-    go : (a : ℕ) (w v : ℕ → Bool) → ((i : ℕ) → Some a ≡ Some i → Accessed k h i) → (T (w here) → T (v here) → ⊥)
-        → ((T (at_or_after m here (step_at h a)) → ⊥) → T (w here) ⊎ T (v here))
-        → mark_at (Read t c ∷ h) (stood a w (step_now h t)) ≡ Some (cond (at_or_after m here (step_at h a) || v here) new (old a))
-    go a w v f p q = grind (arith, nat_tests, step_now_cur, pick, pushed, new, old, mark_top, mark_old)
-
-    ways : (a : ℕ) → ((i : ℕ) → Some a ≡ Some i → Accessed k h i) → (T (at_or_after m here (step_at h a)) → ⊥)
-        → T (m.earlier (step_at h a) here) ⊎ T (m.earlier here (step_at h a))
-    ways a f n = grind (arith, nat_tests, some_way, step_held, at_lt, cur_held)
+    -- the new mark or the old one, by a test of the reader's step
+    moved : (a : ℕ) (test : ℕ → Bool) → ((i : ℕ) → Some a ≡ Some i → Accessed k h i)
+        → mark_at (Read t c ∷ h) (cond (test (step_now h t)) (Some (length h)) (Some a)) ≡ Some (cond (test here) new (old a))
+    moved a test f = grind (arith, nat_tests, step_now_cur, pushed, new, old, mark_top, mark_old)
 
     left_go : (o : Option ℕ) → ((i : ℕ) → o ≡ Some i → Accessed k h i)
         → mark_at (Read t c ∷ h) (next_left lim h t o) ≡ Some (new_left m here (length h) (mark_at h o))
     left_go None f = mark_top h (Read t c)
-    left_go (Some a) f =
-        let x = step_at h a in go a (λ y. m.earlier x y) (λ y. m.earlier y x) f (one_way h s.1 x here) (ways a f)
+    left_go (Some a) f = moved a (λ y. moves_left m y (step_at h a)) f
 
     right_go : (o : Option ℕ) → ((i : ℕ) → o ≡ Some i → Accessed k h i)
         → mark_at (Read t c ∷ h) (next_right lim h t o) ≡ Some (new_right m here (length h) (mark_at h o))
     right_go None f = mark_top h (Read t c)
-    right_go (Some a) f =
-        let x = step_at h a in go a (λ y. m.earlier y x) (λ y. m.earlier x y) f (one_way h s.1 here x) (λ n. swap (ways a f n))
+    right_go (Some a) f = moved a (λ y. moves_right m y (step_at h a)) f
 
     pub read_history : history_of k (Read t c ∷ h) c ≡ after_read m here (length h) (history_of k h c)
     read_history =
