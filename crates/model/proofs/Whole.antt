@@ -26,7 +26,7 @@ use Rattle.model.proofs.Telling.Strict.{before_irrefl, before_asym}
 use Rattle.model.proofs.Telling.Same.{told_before, before_told}
 use Rattle.model.proofs.Verdicts.Standings.{lawful}
 use Rattle.model.proofs.Verdicts.Fed.{clean_fed}
-use Rattle.model.proofs.Verdicts.Replied.{event_answered, seal_answered, unchanged, after_race, sealed_tells}
+use Rattle.model.proofs.Verdicts.Replied.{event_answered, seal_answered, taken_tells, unchanged, after_race, sealed_tells}
 use Rattle.model.proofs.Verdicts.FirstConflict as firsts
 
 pub strict_order : {C : Type 0} (h : Past C) → StrictOrder h
@@ -90,6 +90,7 @@ module _ {C : Type 0} (k : CellKind C) where
         first_named = first_named o.limits h (race_named k o cs) w;
         event_answer = event_answered k o (after_calls k o cs);
         seal_answer = seal_answered k o (after_calls k o cs);
+        taken_tells = taken_tells k o (after_calls k o cs);
         unchanged = unchanged k o (after_calls k o cs);
         after_race = after_race k o (after_calls k o cs);
         sealed_tells = sealed_tells k o (after_calls k o cs);

@@ -3,7 +3,7 @@ use Rattle.std.specs.Prelude.{◌≡◌, Bool, true, false, ◌||◌, T, Some, N
 use Rattle.model.specs.declared.Event.{Event}
 use Rattle.model.specs.declared.Event.TheVariants.{Read, Write}
 
--- what the rules ask of a cell's name: a test that only equal names pass, and whether the numbers in it are in range
+-- what the rules ask of a cell's name: a test that equal names pass and no others, and whether the numbers in it are in range
 pub record CellKind (C : Type 0) : Type 0 where
   pub same : C → C → Bool
   pub same_is : (a b : C) → T (same a b) → a ≡ b

@@ -10,7 +10,7 @@ module _ {C : Type 0} (k : CellKind C) where
   abbrev pub cell_held : Past C → C → Bool
   cell_held h c = any (accesses k c) h
 
-  -- how many cells were
+  -- how many cells were accessed
   abbrev pub cells_held : Past C → ℕ
   cells_held [] = 0
   cells_held (e ∷ h) = some_or (λ c. cond (cell_held h c) 0 1) 0 (cell_of e) + cells_held h

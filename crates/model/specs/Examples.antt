@@ -91,11 +91,18 @@ abbrev within : ℕ → ℕ → ℕ → ℕ → List (Event Cell) → List (Repl
 within events steps cells names es rs =
     record { limits = record { events = events; steps = steps; cells = cells; names = names }; calls = fed es; answers = rs }
 
--- a cell with a number that is too large
+-- cells with a number that is too large
 abbrev large : Cell
 large = record { mailbox = 2 ^ 63; block = 0 }
 
--- each refusal at least once, from 6 to 18; and a sealed run that still names its race
+abbrev high : Cell
+high = record { mailbox = 0; block = 2 ^ 63 }
+
+-- the largest number that is in range
+abbrev largest : ℕ
+largest = 9223372036854775807
+
+-- each refusal at least once, from 6 to 18; and a raced run whose verdict names its race
 abbrev pub refused_examples : List Example
 refused_examples =
     ex (Read 0 large ∷ []) (turned_away 6 0 ∷ [])
@@ -120,6 +127,7 @@ refused_examples =
       calls = Feed (Spawn 0 1) ∷ Feed (Write 1 x) ∷ Feed (Write 0 x) ∷ Seal 7 ∷ Feed (End 1) ∷ [];
       answers = after 2 (took (Some (race WriteWrite 1 2)) ∷ gave_verdict 7 (Some (race WriteWrite 1 2)) 3 ∷ turned_away 11 3 ∷ []);
     }
+    ∷ ex (Spawn 0 (2 ^ 63) ∷ Spawn 0 largest ∷ Read 0 high ∷ Read 0 x ∷ []) (turned_away 6 0 ∷ took None ∷ turned_away 6 1 ∷ took None ∷ [])
     ∷ []
 
 -- each of these gives its answers
@@ -141,7 +149,7 @@ first_examples =
     ∷ within 9 9 9 1 (Spawn 0 1 ∷ End 1 ∷ Spawn 1 2 ∷ []) (after 2 (turned_away 9 2 ∷ []))
     ∷ within 9 3 9 9 (Spawn 0 1 ∷ End 1 ∷ Spawn 1 1 ∷ Spawn 1 2 ∷ Spawn 0 2 ∷ [])
     (after 2 (turned_away 8 2 ∷ turned_away 13 2 ∷ turned_away 17 2 ∷ []))
-    -- open, close and end: 13 comes first
+    -- an open and a close: 13 comes first; the end of a task that has ended is 13 too
     ∷ within 9 3 9 9 (Spawn 0 1 ∷ End 1 ∷ Open 1 ∷ Close 1 ∷ End 1 ∷ [])
     (after 2 (turned_away 13 2 ∷ turned_away 13 2 ∷ turned_away 13 2 ∷ []))
     -- a close: 14, 15, 17
@@ -149,11 +157,12 @@ first_examples =
     ∷ within 9 4 9 9 (Open 0 ∷ Spawn 0 1 ∷ Close 0 ∷ End 1 ∷ Close 0 ∷ [])
     (after 2 (turned_away 15 2 ∷ took None ∷ turned_away 17 3 ∷ []))
     ∷ within 9 3 9 9 (Open 0 ∷ Close 0 ∷ []) (after 2 [])
-    -- an access: 13 ahead of the race
+    -- an access: 13 ahead of the race, and of 18
     ∷ ex (Spawn 0 1 ∷ End 1 ∷ Write 0 x ∷ Write 1 x ∷ []) (after 3 (turned_away 13 3 ∷ []))
+    ∷ within 9 9 1 9 (Spawn 0 1 ∷ End 1 ∷ Read 0 x ∷ Read 1 y ∷ []) (after 3 (turned_away 13 3 ∷ []))
     -- any event: 10, 6, 7, and only then by kind
     ∷ within 0 9 9 9 (Read 0 large ∷ []) (turned_away 10 0 ∷ [])
-    ∷ ex (Read (2 ^ 63) x ∷ Read 9223372036854775807 x ∷ Spawn 1 0 ∷ []) (turned_away 6 0 ∷ turned_away 7 0 ∷ turned_away 7 0 ∷ [])
+    ∷ ex (Read (2 ^ 63) x ∷ Read largest x ∷ Spawn 1 0 ∷ []) (turned_away 6 0 ∷ turned_away 7 0 ∷ turned_away 7 0 ∷ [])
     -- step 0 is held with a limit of 0 too; a cell wants room in the store
     ∷ within 9 0 9 9 (Read 0 x ∷ Open 0 ∷ []) (after 1 (turned_away 17 1 ∷ []))
     ∷ within 9 9 0 9 (Read 0 x ∷ []) (turned_away 18 0 ∷ [])
@@ -163,7 +172,7 @@ first_examples =
     ∷ calling wide (Seal 7 ∷ Seal 8 ∷ []) 0 (gave_verdict 7 None 0 ∷ turned_away 11 0 ∷ [])
     ∷ calling wide (Feed (Spawn 0 1) ∷ Feed (Write 1 x) ∷ Feed (Write 0 x) ∷ Seal 8 ∷ Seal 7 ∷ []) 2
     (took (Some (race WriteWrite 1 2)) ∷ turned_away 12 3 ∷ gave_verdict 7 (Some (race WriteWrite 1 2)) 3 ∷ [])
-    -- a name is never used again, and task 0 always is one
+    -- a name is never used again, and 0 is always in use
     ∷ ex (Spawn 0 1 ∷ End 1 ∷ Spawn 0 1 ∷ Spawn 0 0 ∷ []) (after 2 (turned_away 8 2 ∷ turned_away 8 2 ∷ []))
     ∷ []
 

@@ -1,4 +1,4 @@
--- A run that holds its parts and its stage and nothing else, over lists of calls.
+-- A run that holds its parts and its stage, and beside these only what it was opened with, over lists of calls.
 use Rattle.std.specs.Prelude.{◌≡◌, List, [], ◌∷◌, length, Some, None}
 use Rattle.model.specs.declared.Stage.{Stage}
 use Rattle.model.specs.declared.Stage.TheVariants.{Feeding, Raced, Sealed}

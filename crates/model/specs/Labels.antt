@@ -39,7 +39,7 @@ Low [] n (i ∷ y) = i < n
 Low (a ∷ p) n [] = Unit {0}
 Low (a ∷ p) n (b ∷ y) = a ≡ b → Low p n y
 
--- a label with another end for its last turn
+-- a label with its last turn n replaced by the turns g n
 abbrev pub turned : (ℕ → Label) → Label → Label
 turned g [] = []
 turned g (x ∷ []) = g x

@@ -1,6 +1,7 @@
 -- Cells that are named by a mailbox and a block.
-use Rattle.std.specs.Prelude.{◌≡◌, Bool, true, false, ◌&&◌, T, ◌==◌}
+use Rattle.std.specs.Prelude.{◌≡◌, Bool, ◌&&◌, T, ◌==◌}
 use Rattle.std.proofs.Common.{eqb→eq}
+use Rattle.std.proofs.Math.Facts.{and_yes, yes_and}
 use Rattle.std.proofs.Math.Dec.{eqb_refl}
 use Rattle.model.specs.declared.Cell.{Cell}
 use Rattle.model.specs.Accesses.{CellKind}
@@ -14,22 +15,15 @@ same_cell a b = a.mailbox == b.mailbox && a.block == b.block
 abbrev pub cell_fits : Cell → Bool
 cell_fits c = within_max c.mailbox && within_max c.block
 
-both : (p q : Bool) → T (p && q) → T p × T q
-both true q h = (tt, h)
-both false q h = absurd h
-
-and : (p q : Bool) → T p → T q → T (p && q)
-and true q h k = k
-and false q h k = absurd h
-
--- the test is passed by equal cells, and by no others
+-- only equal cells pass it
 pub same_cell_is : (a b : Cell) → T (same_cell a b) → a ≡ b
 same_cell_is a b h =
-    let (p, q) = both (a.mailbox == b.mailbox) (a.block == b.block) h in
+    let (p, q) = and_yes (a.mailbox == b.mailbox) (a.block == b.block) h in
     λ i. record { mailbox = eqb→eq a.mailbox b.mailbox p i; block = eqb→eq a.block b.block q i }
 
+-- and each passes it with itself
 pub same_cell_refl : (a : Cell) → T (same_cell a a)
-same_cell_refl a = and (a.mailbox == a.mailbox) (a.block == a.block) (eqb_refl a.mailbox) (eqb_refl a.block)
+same_cell_refl a = yes_and (a.mailbox == a.mailbox) (a.block == a.block) (eqb_refl a.mailbox) (eqb_refl a.block)
 
 -- mailbox and block as a cell's name
 abbrev pub mailbox_cells : CellKind Cell

@@ -41,7 +41,7 @@ emptied limit = record {
   last = λ f s. false;
 }
 
--- the step by whose place in serial order a step is told: a step that is held by its own, a new one by that of s
+-- the held step by which the place of a in serial order is told: a itself if it is held, and s if it is new
 abbrev anchor : Order → ℕ → ℕ → ℕ
 anchor m s a = cond (nat_lt a m.steps) a s
 

@@ -142,7 +142,7 @@ module _ {C : Type 0} (k : CellKind C) where
   history_with m s n (Write t d) c x = cond (k.same c d) (after_write s n) x
   history_with m s n e c x = x
 
-  -- what a past leaves of itself
+  -- the parts of a past
   abbrev pub parts_of : Limits → Past C → Parts C
   parts_of l h = record {
     order = order_of l.steps h;
@@ -204,12 +204,15 @@ pub record Room {C : Type 0} (l : Limits) (p : Parts C) : Type 0 where
 module _ {C : Type 0} (k : CellKind C) (l : Limits) where
   -- what can be said and done from the parts of a clean past
   pub record ByParts (h : Past C) : Type 0 where
+    -- the parts say what the rules say, and move as the past does
     pub judged_is : (e : Event C) → judged k l.events (parts_of k l h) e ≡ judge k l h e
     pub stepped_is : (e : Event C) (r : Option (Race C)) → judge k l h e ≡ taken r → parts_of k l (e ∷ h) ≡ stepped k (parts_of k l h) e
-    -- an access that makes a race changes nothing but the cells, of which a raced run asks nothing more
+    -- an access that makes a race changes the count, and else only the cells, of which a raced run asks nothing more
     pub raced_is : (e : Event C) (r : Race C) → judge k l h e ≡ taken (Some r)
         → record (parts_of k l (e ∷ h)) { cells = (parts_of k l h).cells } ≡ counted (parts_of k l h)
+    -- a taken event has room for its count
     pub counted_is : (e : Event C) (r : Option (Race C)) → judge k l h e ≡ taken r → length h < l.events
+    -- a task that is found has the keeper's number
     pub number_is : (t n : ℕ) → task_number (parts_of k l h) t ≡ Some n → n ≡ number h t
     pub room : Room l (parts_of k l h)
 

@@ -4,7 +4,7 @@ use Rattle.model.specs.declared.Event.{Event}
 use Rattle.model.specs.declared.Event.TheVariants.{Spawn, End, Open, Close, Read, Write}
 use Rattle.model.specs.Lists.{any, rest, some_or}
 
--- a list of events, the latest first; the laws speak of those whose events a run has taken
+-- a list of events, the latest first; most laws speak of those whose events a run has taken
 abbrev pub Past : Type 0 → Type 0
 Past C = List (Event C)
 
@@ -77,7 +77,7 @@ abbrev pub opens : {C : Type 0} → Past C → ℕ → ℕ
 opens [] t = 0
 opens (e ∷ h) t = cond (is_open e && t == actor e) (suc (opens h t)) (opens h t)
 
--- the finishes of its own that t has open after an event, by those before it; t has opened n finishes before it
+-- the finishes of its own that t has open after an event, by those that it has open before; n is how many it had opened by then
 abbrev pub own_after : {C : Type 0} → Event C → ℕ → ℕ → List ℕ → List ℕ
 own_after (Open a) t n own = cond (t == a) (n ∷ own) own
 own_after (Close a) t n own = cond (t == a) (rest own) own

@@ -4,6 +4,7 @@ use Rattle.model.specs.Lists.{mem}
 use Rattle.model.specs.Orders.{Order, emptied, spawned, opened, closed, done}
 
 -- calls of running tasks: a close needs a finish of its own open in which no task lives, an end needs none open
+-- the step limit is not looked at: what holds of these orders holds past it too
 pub data Reached (limit : ℕ) : Order → Type 0 where
   start : Reached limit (emptied limit)
   by_spawn : (m : Order) (t : ℕ) → Reached limit m → T (m.task t).running → Reached limit (spawned m t)

@@ -142,6 +142,9 @@ module _ {C : Type 0} (k : CellKind C) (o : Opening) where
     -- the next call is answered by the stage
     pub event_answer : (e : Event C) → EventAnswered (after_calls cs) e (answer_to (after_calls cs) (Feed e))
     pub seal_answer : (j : ℕ) → SealAnswered (after_calls cs) j (answer_to (after_calls cs) (Seal j))
+    -- an event that is taken joins the past, and its race is the one that is then named
+    pub taken_tells : (e : Event C) (r : Option (Race C)) → answer_to (after_calls cs) (Feed e) ≡ took r
+        → (past_of (Feed e ∷ cs) ≡ e ∷ past_of cs) × (race_named (Feed e ∷ cs) ≡ r)
     -- a call that is turned away changes nothing, and its place is the count of events taken
     pub unchanged : (c : Call C) (n p : ℕ) → answer_to (after_calls cs) c ≡ turned_away n p
         → (after_calls (c ∷ cs) ≡ after_calls cs) × (p ≡ length (past_of cs))

@@ -20,7 +20,9 @@ pub record Lows (m : Order) (lab node : ℕ → Label) (p : Label) (n : ℕ) : T
   pub step_low : (x : ℕ) → x < m.steps → Low p n (lab x)
   pub node_low : (f : ℕ) → f < m.finishes → Low p n (node f)
 
--- a task's finishes, from the innermost, whose child at the node p the task is on
+-- the finishes of a task whose current step is a child of the node p, from the innermost:
+-- each of its own has the node p and hangs, by an even turn with nothing to its right, from the node at which the next is looked at;
+-- the last, which it lives in, has p under its node
 abbrev pub Stack : Order → (ℕ → Label) → (ℕ → Label) → Label → List ℕ → Type 0
 Stack m lab node p [] = ⊥
 Stack m lab node p (h ∷ []) = Under (node h) p

@@ -52,8 +52,8 @@ pub fn reached_orders_have_trees()
     ensures laws { (limit : ℕ) (m : Order) → Reached limit m → OrderLaws m }
 {}
 
-// The order after a past whose events were taken is one that a keeper's calls reach; it says of the steps of two accesses
-// which is before which, and of the steps of all events how they stand in serial order.
+// Law 8, of steps. The order after a past whose events were taken is one that a keeper's calls reach; it says of the steps of
+// two accesses which is before which, and of the steps of all events how they stand in serial order.
 pub fn steps_tell_events<C>()
     ensures linked { (k : CellKind C) (l : Limits) → StepsTell k l }
 {}

@@ -1,4 +1,4 @@
-// What a record says: events, cells, races; what is kept of a cell and of a run; the layers that refuse. `specs/` has the
+// Events and cells, as a record has them; races; what is kept of a cell and of a run; the layers that refuse. `specs/` has the
 // rules of a run, and `laws` has the laws that are proved of them.
 #![tactic(auto)]
 
@@ -43,7 +43,7 @@ pub enum RaceKind {
     ReadWrite,
 }
 
-// Two conflicting accesses of a cell that no event orders, by their places.
+// Two conflicting accesses of a cell that nothing orders, by their places.
 #[derive(Clone, Copy, PartialEq, Eq, Debug)]
 pub struct Race<C> {
     pub kind: RaceKind,

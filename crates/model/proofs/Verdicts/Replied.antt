@@ -1,6 +1,6 @@
 -- What a reply says of where the run stands: a refusal and a stop leave it as it was, and a verdict tells it.
 use Rattle.std.proofs.Math.Facts.{yes_eqb}
-use Rattle.std.proofs.Common.{◌≡◌, ℕ, Bool, true, false, cond, not, T, eqb, eqb→eq, length, Some, None, Option, sym, refl, ap, ◌∙◌, inl, inr, arith}
+use Rattle.std.proofs.Common.{◌≡◌, ℕ, Bool, true, false, cond, not, T, eqb, eqb→eq, ◌∷◌, length, Some, None, Option, sym, refl, ap, ◌∙◌, inl, inr, arith}
 use Rattle.model.specs.declared.Event.{Event}
 use Rattle.model.specs.declared.Race.{Race}
 use Rattle.model.specs.declared.Stage.{Stage}
@@ -9,7 +9,7 @@ use Rattle.model.specs.declared.Call.{Call}
 use Rattle.model.specs.declared.Call.TheVariants.{Feed, Seal}
 use Rattle.model.specs.Accesses.{CellKind}
 use Rattle.model.specs.Rules.{Answer, taken, refused, judge}
-use Rattle.model.specs.Runs.{Opening, Standing, Reply, took, stopped, turned_away, gave_verdict, is_sealed, named, handed_back}
+use Rattle.model.specs.Runs.{Opening, Standing, Reply, took, stopped, turned_away, gave_verdict, is_sealed, named, stage_with, handed_back}
 use Rattle.model.specs.Runs.{answer_reply, seal_reply, reply_by, moved_by, answer_to, EventAnswered, SealAnswered}
 use Rattle.model.proofs.Shelf.Tests.{tried, cond_yes, cond_no}
 
@@ -81,6 +81,16 @@ module _ {C : Type 0} (k : CellKind C) (o : Opening) (s : Standing C) where
   -- how many events were taken
   abbrev count : ℕ
   count = length s.past
+
+  named_with : (r : Option (Race C)) → named (stage_with r) ≡ r
+  named_with None = refl
+  named_with (Some r) = refl
+
+  pub taken_tells : (e : Event C) (r : Option (Race C)) → answer_to k o s (Feed e) ≡ took r
+      → ((moved_by s (Feed e) (answer_to k o s (Feed e))).past ≡ e ∷ s.past)
+      × (named (moved_by s (Feed e) (answer_to k o s (Feed e))).stage ≡ r)
+  taken_tells e r q =
+      (ap (λ a. (moved_by s (Feed e) a).past) q, ap (λ a. named (moved_by s (Feed e) a).stage) q ∙ named_with r)
 
   pub unchanged : (c : Call C) (n p : ℕ) → answer_to k o s c ≡ turned_away n p → (moved_by s c (answer_to k o s c) ≡ s) × (p ≡ count)
   unchanged c n p q =
