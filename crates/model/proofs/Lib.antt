@@ -17,7 +17,7 @@ pub mod Orderings
 pub mod Reorderings
 -- law 4, and lists of calls
 pub mod Verdicts
--- law 8
+-- law 8, and law 7 of marks
 pub mod Parting
 -- the laws, put together
 pub mod Whole

@@ -12,7 +12,7 @@ use Rattle.model.specs.Laws.{StrictOrder, Clean, Outcome, CleanSettled, RacesRea
 use Rattle.model.specs.Runs.{Opening, after_calls, past_of, race_named, Upheld}
 use Rattle.model.specs.Link.{StepsTell}
 use Rattle.model.proofs.Trees.Reached.{reached_laws}
-use Rattle.model.proofs.Shelf.Befores.{before_test}
+use Rattle.model.proofs.Shelf.Befores.{before_of, before_in}
 use Rattle.model.proofs.Orderings.Legals.{recorded_legal}
 use Rattle.model.proofs.Orderings.Races as races
 use Rattle.model.proofs.Orderings.Settles as settles
@@ -32,7 +32,7 @@ use Rattle.model.proofs.Verdicts.FirstConflict as firsts
 pub strict_order : {C : Type 0} (h : Past C) → StrictOrder h
 strict_order h =
     record {
-      tested = λ i j. ((before_test h i j).1, (before_test h i j).0);
+      tested = λ i j. (before_in h i j, before_of h i j);
       irreflexive = before_irrefl h;
       asymmetric = before_asym h;
       transitive = λ i j k a b. through i j k a b;
@@ -60,7 +60,7 @@ module _ {C : Type 0} (k : CellKind C) where
 
   pub any_order : (l : Limits) → AnyOrder k l
   any_order l h c o legal =
-      (length_arranged h o (part_of_legal h o legal) ∙ legal.whole, reorderings.clean_any_order k clean_ordered before_test l h c o legal)
+      (length_arranged h o (part_of_legal h o legal) ∙ legal.whole, reorderings.clean_any_order k clean_ordered l h c o legal)
 
   verdict_sound : (l : Limits) (h : Past C) (m : Option (Race C)) → Outcome k l h m → Sound k h
   verdict_sound l h None q = clean_sound k l h q

@@ -1,4 +1,4 @@
--- The step that the event at a place was done on, and the step on which a task goes on after a spawn.
+-- The step that the event at a place was done on stays the same whatever follows; a task goes on after a spawn on a step of its own.
 use Rattle.std.proofs.lemmas.Bool.Decides.{nat_tests}
 use Rattle.std.proofs.Common.{◌≡◌, ℕ, ◌+◌, ◌<◌, cond, eqb, [], ◌∷◌, length, arith}
 use Rattle.model.specs.declared.Event.{Event}

@@ -24,14 +24,14 @@ use Rattle.model.proofs.Shelf.Tests.{or_l, or_r, tried, cond_yes, cond_no}
 use Rattle.model.proofs.Shelf.Lists.{any_of, any_in, mem_tail, keep_in, keep_of}
 use Rattle.model.proofs.Shelf.Places.{at_top, at_old, at_lt, at_case, at_grow}
 use Rattle.model.proofs.Shelf.Befores.{before_old, before_lt, before_lead, lead_before, before_trans}
-use Rattle.model.proofs.Linking.Sound.{Known, Sound, actor_known, child_known, clean_sound, clean_race}
+use Rattle.model.proofs.Linking.Sound.{Known, Sound, actor_known, child_known, clean_sound}
 use Rattle.model.proofs.Linking.Steps
 use Rattle.model.proofs.Linking.Steps.{upto_case, upto_before, upto_trans, past_now, before_upto, steps_before, through_lead, now_through}
 use Rattle.model.proofs.Linking.Words.{at_keeper}
 use Rattle.model.proofs.Linking.Subtree.{earlier_upto}
 use Rattle.model.proofs.Linking.Serial
 use Rattle.model.proofs.Linking.Edges.{is_unordered, left_edge, right_edge}
-use Rattle.model.proofs.Orderings.Races.{reads_since_of, unordered_of}
+use Rattle.model.proofs.Orderings.Races.{reads_since_of, unordered_of, taken_race}
 use Rattle.model.proofs.Orderings.Settles.{access_write, Ordered}
 
 module _ {C : Type 0} (k : CellKind C) where
@@ -255,4 +255,6 @@ module _ {C : Type 0} (k : CellKind C) (lim : ℕ) (laws : (limit : ℕ) (m : Or
   -- so a clean past has every conflicting pair in order
   pub clean_ordered : (l : Limits) (h : Past C) → Clean k l h → Ordered k h
   clean_ordered l [] c i j d e lt p q cf = cc
-  clean_ordered l (x ∷ h) c i j d e lt p q cf = grind (arith, nat_tests, clean_ordered l h, clean_sound, at_case, marks_suffice, clean_race, at_old, before_old)
+  clean_ordered l (x ∷ h) c i j d e lt p q cf =
+      let free = taken_race k l h x None c.0 in
+      grind (arith, nat_tests, clean_ordered l h, clean_sound, at_case, marks_suffice, at_old, before_old)

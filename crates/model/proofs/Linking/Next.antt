@@ -1,4 +1,5 @@
--- How one event changes the marks of a cell.
+-- One event moves a cell's reads only by a read or a write of that cell: a write leaves none, and a read takes the place of the left
+-- one, or of the right one, exactly when the two steps say so.
 use Rattle.std.proofs.lemmas.Bool.Decides.{nat_tests}
 use Rattle.std.proofs.Common.{◌≡◌, ℕ, ◌<◌, Bool, cond, not, ◌||◌, T, ◌⊎◌, [], ◌∷◌, length, Some, None, Option, sym, refl, ap, ◌∙◌, subst, subst₂, inl, inr, arith, T_not}
 use lib.Dec.{not_T}

@@ -7,10 +7,10 @@ use Rattle.model.specs.declared.Race.{Race}
 use Rattle.model.specs.Lists.{mem, is_empty}
 use Rattle.model.specs.Past.{Past, at, actor, makes, own, innermost, made, ended, spawned_tasks, lived_in}
 use Rattle.model.specs.Accesses.{CellKind}
-use Rattle.model.specs.Rules.{Limits, taken, judge, first_tests, by_kind, race_of}
+use Rattle.model.specs.Rules.{Limits, taken, judge, first_tests, by_kind}
 use Rattle.model.specs.Laws.{Clean}
 use Rattle.model.proofs.Shelf.Places.{at_lt, at_case, at_any}
-use Rattle.model.proofs.Orderings.Races.{passes, taken_race}
+use Rattle.model.proofs.Orderings.Races.{passes}
 
 module _ {C : Type 0} (k : CellKind C) where
   -- a task that was made, or the first one
@@ -56,9 +56,6 @@ module _ {C : Type 0} (k : CellKind C) where
   pub clean_sound : (l : Limits) (h : Past C) → Clean k l h → Sound h
   clean_sound l [] c = tt
   clean_sound l (e ∷ h) c = (taken_good l h e None c.0, clean_sound l h c.1)
-
-  pub clean_race : (l : Limits) (h : Past C) (e : Event C) → judge k l h e ≡ taken None → race_of k h e ≡ None
-  clean_race l h e q = taken_race k l h e None q
 
   -- a task stands among the spawned ones if it was made
   pub spawned_is : (h : Past C) (u : ℕ) → mem u (spawned_tasks h) ≡ made h u

@@ -19,6 +19,7 @@ use Rattle.model.proofs.Linking.Sound.{Known, Sound, known_new, actor_known, chi
 use Rattle.model.proofs.Linking.Finishes.{home_has, inner_has, finish_number_inj, same_finish_eq, same_finish_refl}
 use Rattle.model.proofs.Linking.Reach.{keeper_reached, runs_now}
 use Rattle.model.proofs.Linking.Words.{at_keeper}
+use Rattle.model.proofs.Shelf.Places.{ends_is}
 use Rattle.model.proofs.Linking.PlaceSteps.{current_is, place_step_old, now_child, now_parent, now_open, now_close, now_end, now_other}
 use Rattle.model.proofs.Linking.PlaceSteps.{now_lt, place_step_lt, before_kept, is_upto, upto_kept, spawn_new, open_new, waits, close_new}
 use Rattle.model.proofs.Linking.PlaceSteps.{owner_now, owner_place, last_step_of, last_step_by}
@@ -95,17 +96,12 @@ module _ {C : Type 0} (k : CellKind C) (lim : ℕ) (laws : (limit : ℕ) (m : Or
   now_event h (Write a c) s = upto_refl h (now h a) (now h a) refl
   now_event h e s = upto_refl (e ∷ h) (now h (actor e)) (now h (actor e)) refl
 
-  -- an event that ends its own task
-  is_end : (d : Event C) → T (ends (actor d) d) → d ≡ End (actor d)
-  is_end (Spawn a u) q = absurd q
-  is_end e q = grind arith
-
   -- an end that a close awaited has its step up to the close's
   await_event : (h : Past C) (e : Event C) → Sound k (e ∷ h) → (i : ℕ) (d : Event C) → at h i ≡ Some d → T (awaited h d e)
       → Upto (e ∷ h) (place_step h i) (event_step h e)
   await_event h (Close a) s i d q w =
       let at_home = same_finish (home h (actor d)) (innermost h a) in
-      let an_end = is_end d ((and_yes (ends (actor d) d) at_home w).0) in
+      let an_end = ends_is (actor d) d ((and_yes (ends (actor d) d) at_home w).0) in
       let same = same_finish_eq (home h (actor d)) (innermost h a) ((and_yes (ends (actor d) d) at_home w).1) in
       let f = finish_number h (innermost h a) in
       let l = place_step h i in

@@ -1,4 +1,4 @@
--- The words of this group at one keeper: its order, and the steps of tasks and of places.
+-- The words of this group at one keeper, so that each file says them in one line: its order, and the steps of tasks and of places.
 use Rattle.std.proofs.Common.{ℕ, T}
 use Rattle.model.specs.declared.Event.{Event}
 use Rattle.model.specs.Past.{Past, Finish}

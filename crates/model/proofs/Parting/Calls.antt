@@ -1,5 +1,5 @@
--- A run that holds its parts answers each call as the rules do:
--- before each call the two agree on the stage and the count, and, while it is fed, the parts are those of the past.
+-- Before each call a run that holds its parts and a run of the rules agree on the stage and the count, and while it is fed on the
+-- parts of the past; so each call is answered alike.
 use Rattle.std.proofs.Common.{◌≡◌, ℕ, Bool, true, false, cond, eqb, List, [], ◌∷◌, length, Some, None, sym, refl, ap, ◌∙◌, subst, add-one}
 use Rattle.model.specs.declared.Event.{Event}
 use Rattle.model.specs.declared.Stage.{Stage}

@@ -1,9 +1,8 @@
 -- What the parts hold: steps and places in their histories, numbers in their names, and how many tasks and finishes there are.
 use Rattle.std.proofs.lemmas.Option.{none-some}
 use Rattle.std.proofs.lemmas.Option.{same_Some}
-use Rattle.std.proofs.Common.{◌≡◌, ℕ, ◌+◌, ◌<◌, Bool, true, false, cond, ◌||◌, eqb, List, ◌∷◌, length, Some, None, Option, sym, refl, ◌∙◌, subst, inl, inr, arith}
+use Rattle.std.proofs.Common.{◌≡◌, ℕ, ◌+◌, ◌<◌, Bool, true, false, cond, ◌||◌, eqb, length, Some, None, Option, sym, refl, ◌∙◌, subst, inl, inr, arith}
 use Rattle.model.specs.declared.History.{History}
-use Rattle.model.specs.Lists.{some_or}
 use Rattle.model.specs.Past.{Past, made}
 use Rattle.model.specs.Accesses.{CellKind}
 use Rattle.model.specs.Cells.{cell_held, last_write, left_read, right_read}
@@ -18,10 +17,6 @@ use Rattle.model.proofs.Linking.Keeper.{number_le, tasks_is}
 use Rattle.model.proofs.Parting.Tasks.{task_known, task_unknown}
 use Rattle.model.proofs.Parting.Cells.{Accessed, write_place, left_place, right_place}
 use Rattle.model.proofs.Parting.Marks.{step_held, cur_held}
-
-one_more_or_none : (n : ℕ) (xs : List ℕ) (o : Option ℕ) → n ≡ length xs → some_or (λ u. n + 1) n o ≡ length (some_or (λ u. u ∷ xs) xs o)
-one_more_or_none n xs None p = p
-one_more_or_none n xs (Some u) p = omega arith
 
 module _ {C : Type 0} (k : CellKind C) where
   mark_held : (lim : ℕ) (h : Past C) → Sound k h → (o : Option ℕ) → ((i : ℕ) → o ≡ Some i → Accessed k h i)

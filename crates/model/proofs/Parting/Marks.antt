@@ -1,4 +1,4 @@
--- How an event changes the history of a cell.
+-- The history of a cell moves as its definition says: a mark stays the same mark, since its step does not change later.
 use Rattle.std.proofs.lemmas.Bool.Decides.{nat_tests}
 use Rattle.std.proofs.Common.{◌≡◌, ℕ, ◌<◌, Bool, true, false, cond, T, ◌∷◌, length, Some, None, Option, sym, refl, ap, ◌∙◌, arith}
 use Rattle.model.specs.declared.Event.{Event}

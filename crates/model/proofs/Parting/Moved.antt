@@ -1,4 +1,4 @@
--- How a taken event moves the parts.
+-- A taken event moves each part as the longer past has it; the parts are equal if each field is.
 use Rattle.std.proofs.Math.Bool.{or-false}
 use Rattle.std.proofs.lemmas.Bool.Decides.{nat_tests}
 use Rattle.std.proofs.Common.{◌≡◌, ◌∷◌, length, Some, Option, sym, refl, ap, ◌∙◌, arith, add-one}

@@ -1,4 +1,4 @@
--- How an event changes the table of histories and the table of names.
+-- A table has one key more, or another value at one key: an access moves the histories, a spawn the names, and nothing else does.
 use Rattle.std.proofs.lemmas.Bool.Decides.{nat_tests}
 use Rattle.std.proofs.Common.{◌≡◌, ℕ, ◌+◌, Bool, true, false, cond, ◌||◌, T, eqb, ◌∷◌, Some, None, sym, refl, ap, ◌∙◌, inl, inr, arith, subst}
 use Rattle.model.specs.declared.Event.{Event}

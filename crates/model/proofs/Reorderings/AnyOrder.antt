@@ -13,6 +13,8 @@ use Rattle.model.specs.Cells.{cell_held, cells_held}
 use Rattle.model.specs.Rules.{Limits, taken, judge, first_tests, steps_held, steps_of}
 use Rattle.model.specs.Legal.{Legal, arranged}
 use Rattle.model.specs.Laws.{Clean}
+use Rattle.model.proofs.Shelf.Befores.{before_of, before_in}
+use Rattle.model.proofs.Shelf.Places.{ends_is}
 use Rattle.model.proofs.Shelf.Tests.{or_l, cond_no}
 use Rattle.model.proofs.Shelf.Lists.{mem_swap, mem_head}
 use Rattle.model.proofs.Shelf.Places.{at_some, any_at, at_any}
@@ -23,7 +25,7 @@ use Rattle.model.proofs.Linking.Sound.{Known, HasEnded, Sound, clean_sound, acto
 use Rattle.model.proofs.Reorderings.Sublists.{Part, part_apart, part_inside, part_of_legal, part_early}
 use Rattle.model.proofs.Reorderings.Arranged.{arranged_cons, length_arranged, any_arranged, arranged_any}
 use Rattle.model.proofs.Reorderings.Arranged.{pos, pos_here, pos_there, pos_find}
-use Rattle.model.proofs.Reorderings.Facts.{ends_is, same_before, makes_before, one_maker, passed_at}
+use Rattle.model.proofs.Reorderings.Facts.{same_before, makes_before, one_maker, passed_at}
 use Rattle.model.proofs.Reorderings.Homes.{own_part}
 use Rattle.model.proofs.Reorderings.Transfer.{transfer}
 use Rattle.model.proofs.Reorderings.Cells.{cells_cover}
@@ -126,8 +128,7 @@ module _ {C : Type 0} (k : CellKind C) (l : Limits) (h : Past C) (cl : Clean k l
 
 module _
     {C : Type 0} (k : CellKind C)
-    (clean_ordered : (l : Limits) (h : Past C) → Clean k l h → Ordered k h)
-    (before_test : (h : Past C) (i j : ℕ) → (T (before h i j) → HappensBefore h i j) × (HappensBefore h i j → T (before h i j))) where
+    (clean_ordered : (l : Limits) (h : Past C) → Clean k l h → Ordered k h) where
   module _ (l : Limits) (h : Past C) (cl : Clean k l h) where
     -- an access of a part that conflicts with the next event is before it
     mark_before : (i : ℕ) (s : List ℕ) (e : Event C) → Part h (i ∷ s) → at h i ≡ Some e → (p : ℕ) (d : Event C)
@@ -137,9 +138,9 @@ module _
         let g = arranged h s in
         let apart : i ≡ j → ⊥ = λ z. P.1 (mem_swap j i s (sym z) m) in
         let after : i < j → HappensBefore h i j =
-        λ lt. (before_test h i j).0 (clean_ordered l h cl i j e d lt a c (conflicts_sym k d e y)) in
+        λ lt. before_of h i j (clean_ordered l h cl i j e d lt a c (conflicts_sym k d e y)) in
         let lt : j < i = part_early h i s P j m after in
-        let first : HappensBefore h j i = (before_test h j i).0 (clean_ordered l h cl j i d e lt c a y) in
+        let first : HappensBefore h j i = before_of h j i (clean_ordered l h cl j i d e lt c a y) in
         let moved : HappensBefore (arranged h (i ∷ s)) (pos (i ∷ s) j) (pos (i ∷ s) i) =
         transfer k h (clean_sound k l h cl) (i ∷ s) P j i (mem_head i s) first in
         let here : HappensBefore (e ∷ g) (pos (i ∷ s) j) (pos (i ∷ s) i) =
@@ -148,7 +149,7 @@ module _
         subst (λ x. HappensBefore (e ∷ g) x (pos (i ∷ s) i)) (pos_there i j s apart ∙ q) here in
         let two : HappensBefore (e ∷ g) p (length g) =
         subst (λ x. HappensBefore (e ∷ g) p x) (pos_here i s ∙ sym (length_arranged h s P.3)) one in
-        (before_test (e ∷ g) p (length g)).1 two
+        before_in (e ∷ g) p (length g) two
 
     -- an event is taken, with no race, on every part that holds all that is before it
     taken_on_part : (i : ℕ) (s : List ℕ) (e : Event C) → Part h (i ∷ s) → at h i ≡ Some e → judge k l (arranged h s) e ≡ taken None

@@ -3,8 +3,7 @@ use Rattle.std.proofs.Math.Facts.{yes_eqb}
 use Rattle.std.proofs.lemmas.Bool.Decides.{nat_tests}
 use Rattle.std.proofs.Common.{◌≡◌, ℕ, ◌<◌, ◌||◌, T, eqb, [], ◌∷◌, Some, None, arith}
 use Rattle.model.specs.declared.Event.{Event}
-use Rattle.model.specs.declared.Event.TheVariants.{Spawn, End}
-use Rattle.model.specs.Past.{Past, at, behind, actor, makes, ends}
+use Rattle.model.specs.Past.{Past, at, behind, actor, makes}
 use Rattle.model.specs.Before.{HappensBefore, direct, awaited, to_child}
 use Rattle.model.specs.Accesses.{CellKind}
 use Rattle.model.specs.Rules.{Limits, taken, judge, first_tests}
@@ -16,11 +15,6 @@ use Rattle.model.proofs.Linking.Sound.{Sound, child_known, stale}
 use Rattle.model.proofs.Telling.Same.{told_before}
 
 module _ {C : Type 0} where
-  -- an event that ends a task is its end
-  pub ends_is : (u : ℕ) (d : Event C) → T (ends u d) → d ≡ End u
-  ends_is u (Spawn t v) q = absurd q
-  ends_is u e q = grind arith
-
   -- what the first two rules put before: a task's earlier events, and its spawn
   pub same_before : (h : Past C) (i j : ℕ) (d e : Event C)
       → at h i ≡ Some d → at h j ≡ Some e → i < j → actor d ≡ actor e → HappensBefore h i j

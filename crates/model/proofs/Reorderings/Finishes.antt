@@ -18,7 +18,8 @@ use Rattle.model.proofs.Telling.Shut.{shut_at}
 use Rattle.model.proofs.Telling.Same.{told_before}
 use Rattle.model.proofs.Reorderings.Sublists.{Part}
 use Rattle.model.proofs.Reorderings.Arranged.{any_arranged, arranged_any}
-use Rattle.model.proofs.Reorderings.Facts.{ends_is, one_maker}
+use Rattle.model.proofs.Shelf.Places.{ends_is}
+use Rattle.model.proofs.Reorderings.Facts.{one_maker}
 use Rattle.model.proofs.Reorderings.Homes.{home_part, innermost_part}
 
 module _

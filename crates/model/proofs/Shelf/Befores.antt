@@ -72,8 +72,5 @@ module _ {C : Type 0} where
   before_in h i j (direct _ _ d f l p q t) = direct_before h i j d f l p q t
   before_in h i j (through _ m _ a b) = before_trans h i m j (before_in h i m a) (before_in h m j b)
 
-  pub before_test : (h : Past C) (i j : ℕ) → (T (before h i j) → HappensBefore h i j) × (HappensBefore h i j → T (before h i j))
-  before_test h i j = (before_of h i j, before_in h i j)
-
   pub happens_lt : (h : Past C) (i j : ℕ) → HappensBefore h i j → (i < j) × (j < length h)
   happens_lt h i j b = before_lt h i j (before_in h i j b)

@@ -4,10 +4,16 @@ use Rattle.std.proofs.lemmas.Bool.Decides.{nat_tests}
 use Rattle.std.proofs.Common.{◌≡◌, ℕ, ◌<◌, Bool, T, ◌⊎◌, [], ◌∷◌, length, Some, refl, ◌∙◌, inl, inr, arith}
 use Rattle.std.proofs.lemmas.Bool.{cases_eq}
 use Rattle.model.specs.declared.Event.{Event}
+use Rattle.model.specs.declared.Event.TheVariants.{Spawn, End}
 use Rattle.model.specs.Lists.{any}
-use Rattle.model.specs.Past.{Past, at, behind}
+use Rattle.model.specs.Past.{Past, at, behind, ends}
 
 module _ {C : Type 0} where
+  -- an event that ends a task is its end
+  pub ends_is : (u : ℕ) (d : Event C) → T (ends u d) → d ≡ End u
+  ends_is u (Spawn t v) q = absurd q
+  ends_is u e q = grind arith
+
   -- at the new place, at the top, and at an old place
   pub at_new : (h : Past C) (e : Event C) (i : ℕ) → i ≡ length h → at (e ∷ h) i ≡ Some e
   at_new h e i q = grind arith

@@ -3,10 +3,11 @@ use Rattle.std.proofs.Math.Facts.{or_yes}
 use Rattle.std.proofs.lemmas.Bool.Decides.{nat_tests}
 use Rattle.std.proofs.Common.{◌≡◌, ℕ, ◌<◌, ◌||◌, T, eqb, Some, sym, ap, ◌∙◌, inl, inr, eqb→eq, arith}
 use Rattle.model.specs.declared.Event.{Event}
-use Rattle.model.specs.declared.Event.TheVariants.{Spawn, End, Close}
+use Rattle.model.specs.declared.Event.TheVariants.{Spawn, Close}
 use Rattle.model.specs.Past.{Past, at, behind, actor, makes, ends, home, innermost, Finish, closes}
 use Rattle.model.specs.Before.{awaited, leads, HappensBefore, direct, through, Told, to_next, to_child, to_close, through as told_through}
 use Rattle.model.specs.Accesses.{CellKind}
+use Rattle.model.proofs.Shelf.Places.{ends_is}
 use Rattle.model.proofs.Shelf.Places.{at_lt}
 use Rattle.model.proofs.Linking.Sound.{Sound}
 use Rattle.model.proofs.Telling.Chain.{chain}
@@ -30,11 +31,7 @@ module _ {C : Type 0} where
   awaits_of : (g : Past C) (d e : Event C) → T (awaited g d e) → T (ends (actor d) d) × (closes g e ≡ Some (home g (actor d)))
   awaits_of g d e q = grind arith
 
-  -- an event that ends a task is an end, and one that closes a finish a close
-  end_is : (d : Event C) → T (ends (actor d) d) → d ≡ End (actor d)
-  end_is (Spawn t u) q = absurd q
-  end_is e q = grind arith
-
+  -- an event that closes a finish is a close
   close_is : (g : Past C) (e : Event C) (f : Finish) → closes g e ≡ Some f → (e ≡ Close (actor e)) × (innermost g (actor e) ≡ f)
   close_is g (Spawn t u) f q = cc
   close_is g e f q = grind arith
@@ -42,7 +39,9 @@ module _ {C : Type 0} where
 module _ {C : Type 0} (k : CellKind C) where
   awaited_sooner : (h : Past C) → Sound k h → (i j : ℕ) (d e : Event C) → at h i ≡ Some d → at h j ≡ Some e
       → T (ends (actor d) d) → closes (behind h j) e ≡ Some (home h (actor d)) → i < j
-  awaited_sooner h s i j d e a b q c = grind (arith, nat_tests, close_is, end_sooner, end_is)
+  awaited_sooner h s i j d e a b q c =
+      let ending = ends_is (actor d) d q in
+      grind (arith, nat_tests, close_is, end_sooner)
 
   awaited_before : (h : Past C) → Sound k h → (i j : ℕ) (d e : Event C) → at h i ≡ Some d → at h j ≡ Some e
       → T (ends (actor d) d) → closes (behind h j) e ≡ Some (home h (actor d)) → HappensBefore h i j

@@ -1,4 +1,4 @@
--- The spot of a spawn and of an open: the current step itself.
+-- A spawn and an open add their steps at the current step itself: it is the rightmost child of its node, and the last one there.
 use Rattle.std.proofs.Common.{◌≡◌, ℕ, suc, ◌<◌, T, eqb, ◌⊎◌, [], ◌∷◌, ◌++◌, sym, ap, ◌∙◌, subst, inl, inr, arith}
 use Rattle.std.proofs.lemmas.Bool.{cases_eq}
 use Rattle.std.proofs.lemmas.Bool.Decides.{nat_tests}

@@ -1,3 +1,4 @@
+-- The theorem is proved in `Parting`.
 use Rattle.model.proofs.Parting.ByParts.{judged_by_parts}
 use Rattle.model.proofs.Parting.Calls.{answered_by_parts}
 use Rattle.model.proofs.laws.judged_by_parts.Goals as goal

@@ -1,3 +1,4 @@
+-- The theorem is proved in `Parting`.
 use Rattle.model.proofs.Parting.ByParts.{marks_kept}
 use Rattle.model.proofs.laws.marks_are_kept.Goals as goal
 

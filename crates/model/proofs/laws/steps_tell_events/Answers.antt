@@ -1,3 +1,4 @@
+-- The theorem is proved in `Whole`.
 use Rattle.model.proofs.Whole.{steps_tell}
 use Rattle.model.proofs.laws.steps_tell_events.Goals as goal
 

@@ -1,3 +1,4 @@
+-- The theorems are proved in `TwoReaders` and `TwoFound`, for an order with the laws of a reached one.
 use Rattle.model.proofs.Trees.Reached.{reached_laws}
 use Rattle.model.proofs.TwoFound.{two_found}
 use Rattle.model.proofs.TwoReaders.{two_suffice, two_kept}
