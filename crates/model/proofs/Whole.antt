@@ -62,16 +62,16 @@ module _ {C : Type 0} (k : CellKind C) where
   any_order l h c o legal =
       (length_arranged h o (part_of_legal h o legal) ∙ legal.whole, reorderings.clean_any_order k clean_ordered l h c o legal)
 
-  verdict_sound : (l : Limits) (h : Past C) (m : Option (Race C)) → Outcome k l h m → Sound k h
-  verdict_sound l h None q = clean_sound k l h q
-  verdict_sound l [] (Some r) q = absurd q
-  verdict_sound l (e ∷ h) (Some r) q = (taken_good k l h e (Some r) q.0, clean_sound k l h q.1)
+  outcome_sound : (l : Limits) (h : Past C) (m : Option (Race C)) → Outcome k l h m → Sound k h
+  outcome_sound l h None q = clean_sound k l h q
+  outcome_sound l [] (Some r) q = absurd q
+  outcome_sound l (e ∷ h) (Some r) q = (taken_good k l h e (Some r) q.0, clean_sound k l h q.1)
 
   pub told_same : (l : Limits) → ToldSame k l
-  told_same l h m q i j = let s = verdict_sound l h m q in (told_before k h s i j, before_told k h s i j)
+  told_same l h m q i j = let s = outcome_sound l h m q in (told_before k h s i j, before_told k h s i j)
 
   pub steps_tell : (l : Limits) → StepsTell k l
-  steps_tell l h m q = linked k l.steps reached_laws h (verdict_sound l h m q)
+  steps_tell l h m q = linked k l.steps reached_laws h (outcome_sound l h m q)
 
   pub first_named : (l : Limits) → FirstNamed k l
   first_named = firsts.first_named k clean_ordered
