@@ -1,0 +1,13 @@
+use Rattle.std.proofs.Common.{◌≡◌}
+use Rattle.model.specs.Orders.{emptied}
+use Rattle.model.specs.Reached.{start}
+use Rattle.order.proofs.Reaching.{calls_reached}
+use Rattle.order.proofs.Replaying.{standing_by}
+use Rattle.order.proofs.replay.stand_after.Goals as goal
+
+pub returns-clause-reached : goal.returns-clause-reached
+returns-clause-reached g c =
+    let limit = (g.K.HappensBefore.meaning c.args.keeper.now).limit in (
+      calls_reached limit (emptied limit) start c.args.calls.now,
+      standing_by _ _ c.args.a c.args.b _ _ c.make_all.ensures.kept c.before-2.ensures.told c.earlier.ensures.told,
+    )

@@ -1,0 +1,10 @@
+pub mod Faults
+pub mod Calls
+pub mod Ways
+pub mod Rows
+pub mod States
+pub mod Invariants
+pub mod Forks
+pub mod Trees
+pub mod Graphs
+pub mod Replays

@@ -1,0 +1,18 @@
+// Which step of a run is before which, kept by calls as its tasks spawn, end, and open and close finishes.
+#![tactic(auto)]
+
+mod book;
+mod fault;
+mod graph;
+mod keeper;
+mod record;
+mod replay;
+mod rows;
+mod tree;
+
+pub use fault::OrderFault;
+pub use graph::GraphKeeper;
+pub use keeper::{HappensBefore, Keeper, TaskStage};
+pub use record::{FinishRow, Link, Record, TaskRow};
+pub use replay::{OrderCall, Standing, agree_after, stand_after};
+pub use tree::{Relation, TreeKeeper};

@@ -1,0 +1,74 @@
+// Lists of calls, made on any keeper.
+ghost use Rattle.std.specs.Prelude.{◌≡◌, IsTrue};
+ghost use Rattle.model.specs.Orders.{emptied};
+ghost use Rattle.order.specs.Calls.{reply};
+ghost use Rattle.order.specs.Replays.{fault_of, after_call, after_calls, SaysReached};
+
+use crate::fault::OrderFault;
+use crate::keeper::Keeper;
+
+// One call of a task.
+#[derive(Clone, Copy, PartialEq, Eq, Debug)]
+pub enum OrderCall {
+    Spawn { task: u64 },
+    Open { task: u64 },
+    Close { task: u64 },
+    End { task: u64 },
+}
+
+impl OrderCall {
+    // Makes the call, and says whether it was refused.
+    pub fn make<K: Keeper>(self, keeper: &mut K) -> Result<(), OrderFault>
+        ensures answered { result ≡ reply (fault_of (K.meaning keeper.old) self) tt }
+        ensures kept { K.meaning keeper.new ≡ after_call (K.meaning keeper.old) self }
+    {
+        match self {
+            OrderCall::Spawn { task } => keeper.spawn(task).map(|_| ()),
+            OrderCall::Open { task } => keeper.open(task).map(|_| ()),
+            OrderCall::Close { task } => keeper.close(task).map(|_| ()),
+            OrderCall::End { task } => keeper.end(task).map(|_| ()),
+        }
+    }
+}
+
+// How two steps stand.
+#[derive(Clone, Copy, PartialEq, Eq, Debug)]
+pub struct Standing {
+    pub before: bool,
+    pub earlier: bool,
+}
+
+// Starts afresh and makes the calls in turn, whatever is refused.
+fn make_all<K: Keeper>(keeper: &mut K, calls: &[OrderCall])
+    ensures kept { K.meaning keeper.new ≡ after_calls (emptied (K.meaning keeper.old).limit) calls.now }
+{
+    keeper.empty();
+    for call in calls {
+        let _ = call.make(keeper);
+    }
+}
+
+// How the steps a and b stand after the calls: whichever keeper it is, it says what the order says that the calls reach.
+pub fn stand_after<K: Keeper>(keeper: &mut K, calls: &[OrderCall], a: u64, b: u64) -> Standing
+    ensures kept { K.meaning keeper.new ≡ after_calls (emptied (K.meaning keeper.old).limit) calls.now }
+    ensures reached { SaysReached (K.meaning keeper.old).limit calls.now a b result }
+{
+    make_all(keeper, calls);
+    Standing {
+        before: keeper.before(a, b),
+        earlier: keeper.earlier(a, b),
+    }
+}
+
+// Whether two keepers say the same of a and b after the calls: they do, if they may hold as many steps.
+pub fn agree_after<K: Keeper, L: Keeper>(
+    one: &mut K,
+    other: &mut L,
+    calls: &[OrderCall],
+    a: u64,
+    b: u64,
+) -> bool
+    ensures agreed { (K.meaning one.old).limit ≡ (L.meaning other.old).limit → IsTrue result }
+{
+    stand_after(one, calls, a, b) == stand_after(other, calls, a, b)
+}
