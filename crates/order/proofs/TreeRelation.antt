@@ -15,7 +15,8 @@ use Rattle.order.specs.declared.tree.Relation.{Relation}
 use Rattle.order.specs.States.{State, place}
 use Rattle.order.specs.Invariants.{Plain}
 use Rattle.order.specs.Forks.{label, Below, Forked}
-use Rattle.order.specs.Trees.{TreeSound, Node, Grown, tree_order, step_label, climbed, relation_of}
+use Rattle.order.specs.Trees.{TreeSound, Node, Grown, tree_order, step_label, climbed}
+use Rattle.order.specs.Keepers.{relation_in}
 use Rattle.order.proofs.Places.{label_up}
 use Rattle.order.proofs.Relating.{ends_by, before_is, earlier_is, links_are}
 
@@ -120,7 +121,7 @@ module _ (st : State) (w : TreeSound st) where
   -- of two steps that are held
   pub relation_told : (a b : ℕ) → a < st.steps → b < st.steps → (r : Fork) → Forked link (place a) (place b) r
       → record { before = nat_lt r.left r.right && (r.left % 2 == 0); earlier = nat_lt r.left r.right; links = r.links }
-      ≡ relation_of (tree_order st) (step_label st) a b
+      ≡ relation_in (tree_order st) (step_label st) a b
   relation_told a b h k r f =
       let own = distinct a b h k in
       let leaf = labelled st w in
@@ -145,6 +146,6 @@ grown_by st w = ∥∥₁_map w (grown st)
 
 pub told_by : (st : State) → ∥ TreeSound st ∥₁ → (a b : ℕ) → a < st.steps → b < st.steps → (r : Fork) → Forked st.link (place a) (place b) r
     → (over left : Bool) → over ≡ (nat_lt r.left r.right && (r.left % 2 == 0)) → left ≡ nat_lt r.left r.right
-    → record { before = over; earlier = left; links = r.links } ≡ relation_of (tree_order st) (step_label st) a b
+    → record { before = over; earlier = left; links = r.links } ≡ relation_in (tree_order st) (step_label st) a b
 told_by st w a b h k r f over left d e =
     same_relation over _ left _ r.links _ d e refl ∙ ∥∥₁_elim w (Prim.hlevel props) (λ v. relation_told st v a b h k r f)

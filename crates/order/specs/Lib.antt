@@ -7,4 +7,5 @@ pub mod Invariants
 pub mod Forks
 pub mod Trees
 pub mod Graphs
+pub mod Keepers
 pub mod Replays

@@ -1,10 +1,12 @@
 -- Lists of calls: which order they lead to, refused ones included.
-use Rattle.std.specs.Prelude.{◌≡◌, ℕ, List, [], ◌∷◌, Option}
+use Rattle.std.specs.Prelude.{◌≡◌, ℕ, ◌+◌, List, [], ◌∷◌, Option}
 use Rattle.model.specs.Orders.{Order, emptied, spawned, opened, closed, done}
 use Rattle.model.specs.Reached.{Reached}
 use Rattle.order.specs.declared.fault.OrderFault.{OrderFault}
 use Rattle.order.specs.declared.replay.OrderCall.{OrderCall}
 use Rattle.order.specs.declared.replay.OrderCall.TheVariants.{Spawn, Open, Close, End}
+use Rattle.order.specs.declared.replay.Made.{Made}
+use Rattle.order.specs.declared.replay.Made.TheVariants.{Spawned, Next, Last}
 use Rattle.order.specs.declared.replay.Standing.{Standing}
 use Rattle.order.specs.Calls.{spawn_fault, open_fault, close_fault, end_fault, moved}
 
@@ -14,6 +16,13 @@ fault_of m (Spawn t) = spawn_fault m t
 fault_of m (Open t) = open_fault m t
 fault_of m (Close t) = close_fault m t
 fault_of m (End t) = end_fault m t
+
+-- what a call answers that is not refused
+abbrev pub answer_of : Order → OrderCall → Made
+answer_of m (Spawn t) = Spawned m.steps (m.steps + 1)
+answer_of m (Open t) = Next m.steps
+answer_of m (Close t) = Next m.steps
+answer_of m (End t) = Last (m.task t).current
 
 -- what is meant after a call that is not refused
 abbrev pub made : Order → OrderCall → Order

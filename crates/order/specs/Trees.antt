@@ -6,7 +6,6 @@ use Rattle.model.specs.Reached.{Reached}
 use Rattle.model.specs.Trees.{tree_of}
 use Rattle.order.specs.declared.record.Link.{Link}
 use Rattle.order.specs.declared.record.Seat.{Seat}
-use Rattle.order.specs.declared.tree.Relation.{Relation}
 use Rattle.order.specs.Rows.{no_link}
 use Rattle.order.specs.States.{State, place, order_with, spawn_book, open_book, close_book, end_book}
 use Rattle.order.specs.Invariants.{Plain}
@@ -73,11 +72,3 @@ shared (x ∷ a) (y ∷ b) = cond (x == y) (suc (shared a b)) 0
 -- how many links are climbed from two steps to their lowest common ancestor: the depths of both, less twice its own
 abbrev pub climbed : Label → Label → ℕ
 climbed a b = length a + length b - 2 * shared a b
-
--- how two steps stand in the tree, in an order whose steps have the labels `lab`
-abbrev pub relation_of : Order → (ℕ → Label) → ℕ → ℕ → Relation
-relation_of m lab a b = record {
-  before = m.before a b;
-  earlier = m.earlier a b;
-  links = cond (nat_lt a m.steps && nat_lt b m.steps) (climbed (lab a) (lab b)) 0;
-}

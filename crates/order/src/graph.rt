@@ -22,12 +22,11 @@ pub struct GraphKeeper<'a> {
 
 impl<'a> GraphKeeper<'a> {
     ghost use Rattle.model.specs.Orders.{emptied};
-    ghost use Rattle.order.specs.Graphs.{graph_order};
+    ghost use Rattle.order.specs.Keepers.{graph_meaning};
 
     // A keeper of 1 step, and one more for every four records.
     pub fn new(records: &'a mut [Record]) -> GraphKeeper<'a>
-        ensures emptied { graph_order (state_of result.book) ≡ emptied (1 + length records.old / 4) }
-        ensures lent { result.book.rows.lent.ghost_name ≡ records.entry.ghost_name }
+        ensures emptied { graph_meaning result ≡ emptied (1 + length records.old / 4) }
     {
         GraphKeeper {
             book: Book::new(records),
@@ -43,9 +42,9 @@ impl<'a> GraphKeeper<'a> {
 }
 
 impl<'a> HappensBefore for GraphKeeper<'a> {
-    ghost use Rattle.order.specs.Graphs.{graph_order};
+    ghost use Rattle.order.specs.Keepers.{graph_meaning};
 
-    ghost meaning = { λ k. graph_order (state_of k.book) };
+    ghost meaning = { graph_meaning };
 
     fn before(&self, a: u64, b: u64) -> bool {
         self.holds(a, b) && search::searched(&self.book, a, b)

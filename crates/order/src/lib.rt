@@ -14,5 +14,5 @@ pub use fault::OrderFault;
 pub use graph::GraphKeeper;
 pub use keeper::{HappensBefore, Keeper, TaskStage};
 pub use record::{FinishRow, Link, Record, TaskRow};
-pub use replay::{OrderCall, Standing, agree_after, stand_after};
+pub use replay::{Made, OrderCall, Standing, agree_after, stand_after};
 pub use tree::{Relation, TreeKeeper};

@@ -2,7 +2,7 @@
 ghost use Rattle.std.specs.Prelude.{◌≡◌, IsTrue};
 ghost use Rattle.model.specs.Orders.{emptied};
 ghost use Rattle.order.specs.Calls.{reply};
-ghost use Rattle.order.specs.Replays.{fault_of, after_call, after_calls, SaysReached};
+ghost use Rattle.order.specs.Replays.{fault_of, answer_of, after_call, after_calls, SaysReached};
 
 use crate::fault::OrderFault;
 use crate::keeper::Keeper;
@@ -16,18 +16,32 @@ pub enum OrderCall {
     End { task: u64 },
 }
 
+// What a call answers.
+#[derive(Clone, Copy, PartialEq, Eq, Debug)]
+pub enum Made {
+    // the first step of the new task, and the spawner's next
+    Spawned { child: u64, next: u64 },
+    // the task's next step
+    Next(u64),
+    // the task's last step
+    Last(u64),
+}
+
 impl OrderCall {
-    // Makes the call, and says whether it was refused.
-    pub fn make<K: Keeper>(self, keeper: &mut K) -> Result<(), OrderFault>
-        ensures answered { result ≡ reply (fault_of (K.meaning keeper.old) self) tt }
+    // Makes the call.
+    pub fn make<K: Keeper>(self, keeper: &mut K) -> Result<Made, OrderFault>
+        ensures answered { result ≡ reply (fault_of (K.meaning keeper.old) self) (answer_of (K.meaning keeper.old) self) }
         ensures kept { K.meaning keeper.new ≡ after_call (K.meaning keeper.old) self }
     {
-        match self {
-            OrderCall::Spawn { task } => keeper.spawn(task).map(|_| ()),
-            OrderCall::Open { task } => keeper.open(task).map(|_| ()),
-            OrderCall::Close { task } => keeper.close(task).map(|_| ()),
-            OrderCall::End { task } => keeper.end(task).map(|_| ()),
-        }
+        Ok(match self {
+            OrderCall::Spawn { task } => {
+                let (child, next) = keeper.spawn(task)?;
+                Made::Spawned { child, next }
+            }
+            OrderCall::Open { task } => Made::Next(keeper.open(task)?),
+            OrderCall::Close { task } => Made::Next(keeper.close(task)?),
+            OrderCall::End { task } => Made::Last(keeper.end(task)?),
+        })
     }
 }
 

@@ -31,12 +31,11 @@ pub struct TreeKeeper<'a> {
 impl<'a> TreeKeeper<'a> {
     ghost use Rattle.model.specs.Orders.{emptied};
     ghost use Rattle.model.specs.Trees.{Labelled};
-    ghost use Rattle.order.specs.Trees.{tree_order, step_label, relation_of, Grown};
+    ghost use Rattle.order.specs.Keepers.{tree_meaning, labels_of, TreeGrown, relation_in};
 
     // A keeper of 1 step, and one more for every four records.
     pub fn new(records: &'a mut [Record]) -> TreeKeeper<'a>
-        ensures emptied { tree_order (state_of result.book) ≡ emptied (1 + length records.old / 4) }
-        ensures lent { result.book.rows.lent.ghost_name ≡ records.entry.ghost_name }
+        ensures emptied { tree_meaning result ≡ emptied (1 + length records.old / 4) }
     {
         TreeKeeper {
             book: Book::new(records),
@@ -45,9 +44,9 @@ impl<'a> TreeKeeper<'a> {
 
     // How the steps a and b stand in the tree; no, no and 0 if one of them is not held.
     pub fn relation(&self, a: u64, b: u64) -> Relation
-        ensures told { result ≡ relation_of (tree_order (state_of self.now.book)) (step_label (state_of self.now.book)) a b }
-        ensures labelled { Labelled (tree_order (state_of self.now.book)) (step_label (state_of self.now.book)) }
-        ensures grown { ∥ Grown (state_of self.now.book) ∥₁ }
+        ensures told { result ≡ relation_in (tree_meaning self.now) (labels_of self.now) a b }
+        ensures labelled { Labelled (tree_meaning self.now) (labels_of self.now) }
+        ensures grown { TreeGrown self.now }
     {
         if a >= self.book.steps || b >= self.book.steps {
             return Relation {
@@ -66,9 +65,9 @@ impl<'a> TreeKeeper<'a> {
 }
 
 impl<'a> HappensBefore for TreeKeeper<'a> {
-    ghost use Rattle.order.specs.Trees.{tree_order};
+    ghost use Rattle.order.specs.Keepers.{tree_meaning};
 
-    ghost meaning = { λ k. tree_order (state_of k.book) };
+    ghost meaning = { tree_meaning };
 
     fn before(&self, a: u64, b: u64) -> bool {
         self.relation(a, b).before

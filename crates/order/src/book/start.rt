@@ -31,7 +31,6 @@ impl<'a> Book<'a> {
     pub fn new(records: &'a mut [Record]) -> Book<'a>
         ensures cleared { Cleared (1 + length records.old / 4) (state_of result) }
         ensures small { (state_of result).limit ≤ 2 ^ 62 }
-        ensures lent { result.rows.lent.ghost_name ≡ records.entry.ghost_name }
     {
         Book {
             rows: Rows {

@@ -8,5 +8,5 @@ invariant_of-result c =
     let began = graph_cleared _ (state_of c.new.result) c.new.ensures.cleared (omega arith) (omega (arith, c.new.ensures.small, c.new.ensures.cleared.limit_is)) in
     record { plain = began.0.plain; sound = ∣ began.0 ∣₁ }
 
-pub returns-clause-emptied : goal.returns-clause-emptied
-returns-clause-emptied c = (graph_cleared _ (state_of c.new.result) c.new.ensures.cleared (omega arith) (omega (arith, c.new.ensures.small, c.new.ensures.cleared.limit_is))).1
+pub returns : goal.returns
+returns c = record { emptied = (graph_cleared _ (state_of c.new.result) c.new.ensures.cleared (omega arith) (omega (arith, c.new.ensures.small, c.new.ensures.cleared.limit_is))).1 }
