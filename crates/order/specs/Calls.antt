@@ -1,7 +1,7 @@
 -- What each call of an order keeper is refused for, what it answers, and which order the keeper means after it.
-use Rattle.std.specs.Prelude.{ℕ, ◌+◌, Bool, true, false, cond, not, List, [], ◌∷◌, Some, None, Ok, Err, Option, Result}
+use Rattle.std.specs.Prelude.{ℕ, Bool, cond, not, List, [], ◌∷◌, Some, None, Ok, Err, Option, Result}
 use Rattle.model.specs.Lists.{head_or}
-use Rattle.model.specs.Orders.{Order, Task, spawned, opened, closed, done, gone, few, has_own, lived}
+use Rattle.model.specs.Orders.{Order, Task, gone, few, has_own, lived}
 use Rattle.order.specs.declared.fault.OrderFault.{OrderFault}
 use Rattle.order.specs.declared.fault.OrderFault.TheVariants.{TaskEnded, NoFinishOpen, FinishNotEmpty, FinishOpen, NoStepFree}
 use Rattle.order.specs.declared.keeper.TaskStage.{TaskStage}

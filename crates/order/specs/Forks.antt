@@ -1,5 +1,5 @@
 -- Where the ways up from two places meet.
-use Rattle.std.specs.Prelude.{◌≡◌, ℕ, suc, ◌+◌, ◌<◌, cond, List, [], ◌∷◌, ◌++◌, length, ◌⊎◌, ◌≢◌, nat_lt}
+use Rattle.std.specs.Prelude.{◌≡◌, ℕ, suc, ◌+◌, ◌<◌, cond, [], ◌∷◌, ◌++◌, length, ◌⊎◌, ◌≢◌, nat_lt}
 use Rattle.model.specs.Lists.{head_or}
 use Rattle.model.specs.Labels.{Label}
 use Rattle.order.specs.declared.record.Link.{Link}

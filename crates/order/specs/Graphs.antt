@@ -6,7 +6,6 @@ use Rattle.model.specs.Reached.{Reached}
 use Rattle.order.specs.declared.record.Seat.{Seat}
 use Rattle.order.specs.States.{State, place, order_with, spawn_book, open_book, close_book}
 use Rattle.order.specs.Invariants.{Plain}
-use Rattle.order.specs.Forks.{label}
 use Rattle.order.specs.Ways.{Ways, way, searched, ways_of}
 
 -- A step x stands at the place 2 x + 1, and hangs from the step that it comes from, by the turn x. At the place 2 x stands, as if

@@ -1,9 +1,7 @@
 -- What each keeper means, and what the tree keeper's relation says.
-use Rattle.std.specs.Prelude.{◌≡◌, ℕ, ◌-◌, ◌*◌, ◌+◌, ◌<◌, ◌&&◌, cond, length, nat_lt}
+use Rattle.std.specs.Prelude.{ℕ, ◌&&◌, cond, nat_lt}
 use Rattle.model.specs.Orders.{Order}
 use Rattle.model.specs.Labels.{Label}
-use Rattle.model.specs.Reached.{Reached}
-use Rattle.model.specs.Trees.{tree_of}
 use Rattle.order.specs.declared.tree.TreeKeeper.{TreeKeeper}
 use Rattle.order.specs.declared.tree.Relation.{Relation}
 use Rattle.order.specs.declared.graph.GraphKeeper.{GraphKeeper}

@@ -8,7 +8,6 @@ use Rattle.order.specs.declared.record.FinishRow.{FinishRow}
 use Rattle.order.specs.declared.record.Seat.{Seat}
 use Rattle.order.specs.declared.record.Record.{Record}
 use Rattle.order.specs.declared.record.Record.TheVariants as kind
-use Rattle.order.specs.declared.rows.Rows.{Rows}
 use Rattle.order.specs.declared.book.Book.{Book}
 use Rattle.order.specs.Rows.{no_link, limit_of, row_of}
 
@@ -116,6 +115,9 @@ pub record Cleared (limit : ℕ) (st : State) : Type 0 where
   pub leaf_is : st.link 1 ≡ no_link
   pub task_is : st.task 0 ≡ record { running = true; current = 0; inner = 0; own = 0; home = 0 }
   pub finish_is : st.finish 0 ≡ record { outer = 0; alive = 1; shut = 0 }
+
+abbrev pub tasks_in : Book → Order
+tasks_in b = tasks_told (state_of b)
 
 -- Calls of a book, whichever keeper it is of. Only where new steps hang is for the keeper to say.
 

@@ -1,13 +1,13 @@
 -- The tree keeper: where its new steps hang, which order it means, and what holds of it from call to call.
-use Rattle.std.specs.Prelude.{◌≡◌, ℕ, ◌+◌, ◌-◌, ◌*◌, ◌<◌, ◌&&◌, cond, length, nat_lt, List, [], ◌∷◌, ◌==◌, suc}
-use Rattle.model.specs.Orders.{Order, spawned}
+use Rattle.std.specs.Prelude.{◌≡◌, ℕ, ◌+◌, ◌-◌, ◌*◌, ◌<◌, cond, length, [], ◌∷◌, ◌==◌, suc}
+use Rattle.model.specs.Orders.{Order}
 use Rattle.model.specs.Labels.{Label, left, over}
 use Rattle.model.specs.Reached.{Reached}
 use Rattle.model.specs.Trees.{tree_of}
 use Rattle.order.specs.declared.record.Link.{Link}
 use Rattle.order.specs.declared.record.Seat.{Seat}
 use Rattle.order.specs.Rows.{no_link}
-use Rattle.order.specs.States.{State, place, order_with, spawn_book, open_book, close_book, end_book}
+use Rattle.order.specs.States.{State, place, order_with, spawn_book, open_book, close_book}
 use Rattle.order.specs.Invariants.{Plain}
 use Rattle.order.specs.Forks.{label}
 

@@ -1,6 +1,6 @@
-use Rattle.std.proofs.Common.{◌≡◌, ap}
+use Rattle.std.proofs.Common.{ap}
 use Rattle.order.specs.Replays.{after_calls}
-use Rattle.order.proofs.Replaying.{calls_more, calls_all}
+use Rattle.order.proofs.Replays.Replaying.{calls_more, calls_all}
 use Rattle.order.proofs.replay.make_all.Goals as goal
 
 pub loop-call-init : goal.loop-call-init

@@ -1,8 +1,7 @@
-use Rattle.std.proofs.Common.{◌≡◌}
 use Rattle.model.specs.Orders.{emptied}
 use Rattle.model.specs.Reached.{start}
-use Rattle.order.proofs.Reaching.{calls_reached}
-use Rattle.order.proofs.Replaying.{standing_by}
+use Rattle.order.proofs.Replays.Reaching.{calls_reached}
+use Rattle.order.proofs.Replays.Replaying.{standing_by}
 use Rattle.order.proofs.replay.stand_after.Goals as goal
 
 pub returns-clause-reached : goal.returns-clause-reached

@@ -1,8 +1,8 @@
-use Rattle.std.proofs.Common.{◌≡◌, ap, ◌∙◌, nat_lt}
+use Rattle.std.proofs.Common.{ap, ◌∙◌, nat_lt}
 use Rattle.order.specs.declared.record.TaskRow.{TaskRow}
 use Rattle.order.specs.declared.record.FinishRow.{FinishRow}
 use Rattle.order.specs.States.{state_of}
-use Rattle.order.proofs.Running.{awaits_is}
+use Rattle.order.proofs.Books.Running.{awaits_is}
 use Rattle.order.proofs.book.Book.awaits.Goals as goal
 
 pub returns : goal.returns

@@ -1,7 +1,7 @@
 use Rattle.std.proofs.Common.{ap, arith}
 use Rattle.order.specs.declared.record.Link.{Link}
 use Rattle.order.specs.States.{state_of}
-use Rattle.order.proofs.Climbing.{climb_start, stepped_a, stepped_b, climb_end}
+use Rattle.order.proofs.Climbs.Climbing.{climb_start, stepped_a, stepped_b, climb_end}
 use Rattle.order.proofs.book.Book.climb.Goals as goal
 use Rattle.order.proofs.book.Book.climb.Goals.{then-x-y, else-x-y}
 

@@ -1,6 +1,6 @@
 use Rattle.std.proofs.Common.{◌+◌}
 use Rattle.order.specs.States.{state_of}
-use Rattle.order.proofs.Climbing.{Climb}
+use Rattle.order.proofs.Climbs.Climbing.{Climb}
 use Rattle.order.proofs.book.Book.climb.Given as goal
 
 abbrev pub invariant-loop-x : goal.invariant-loop-x

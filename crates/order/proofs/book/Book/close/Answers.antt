@@ -1,5 +1,5 @@
 use Rattle.order.specs.States.{state_of}
-use Rattle.order.proofs.Chains.{close_chain}
+use Rattle.order.proofs.Books.Chains.{close_chain}
 use Rattle.order.proofs.book.Book.close.Goals as goal
 
 pub returns-clause-kept : goal.returns-clause-kept

@@ -1,4 +1,4 @@
-use Rattle.order.proofs.Books.{link_written}
+use Rattle.order.proofs.Books.Writes.{link_written}
 use Rattle.order.proofs.book.Book.hang.Goals as goal
 
 pub returns : goal.returns

@@ -1,6 +1,6 @@
 use Rattle.std.proofs.Common.{refl}
 use Rattle.order.specs.States.{state_of}
-use Rattle.order.proofs.Chains.{open_chain}
+use Rattle.order.proofs.Books.Chains.{open_chain}
 use Rattle.order.proofs.book.Book.open.Goals as goal
 
 pub returns-clause-kept : goal.returns-clause-kept

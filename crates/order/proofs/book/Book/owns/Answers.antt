@@ -1,7 +1,7 @@
-use Rattle.std.proofs.Common.{◌≡◌, ap, ◌∙◌, nat_lt}
+use Rattle.std.proofs.Common.{ap, ◌∙◌, nat_lt}
 use Rattle.order.specs.declared.record.TaskRow.{TaskRow}
 use Rattle.order.specs.States.{state_of}
-use Rattle.order.proofs.Running.{owns_is}
+use Rattle.order.proofs.Books.Running.{owns_is}
 use Rattle.order.proofs.book.Book.owns.Goals as goal
 
 pub returns : goal.returns

@@ -1,4 +1,4 @@
-use Rattle.std.proofs.Common.{◌≡◌, ℕ, ◌+◌, ◌*◌, ap, ◌∙◌}
+use Rattle.std.proofs.Common.{ap, ◌∙◌}
 use Rattle.model.specs.Lists.{put}
 use Rattle.order.specs.States.{State, place}
 use Rattle.order.proofs.book.Book.seat.Goals as goal

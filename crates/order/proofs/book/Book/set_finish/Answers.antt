@@ -1,4 +1,4 @@
-use Rattle.order.proofs.Books.{finish_written}
+use Rattle.order.proofs.Books.Writes.{finish_written}
 use Rattle.order.proofs.book.Book.set_finish.Goals as goal
 
 pub returns : goal.returns

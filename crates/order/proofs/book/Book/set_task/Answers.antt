@@ -1,4 +1,4 @@
-use Rattle.order.proofs.Books.{task_written}
+use Rattle.order.proofs.Books.Writes.{task_written}
 use Rattle.order.proofs.book.Book.set_task.Goals as goal
 
 pub returns : goal.returns

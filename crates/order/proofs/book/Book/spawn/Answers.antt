@@ -1,9 +1,9 @@
-use Rattle.std.proofs.Common.{◌≡◌, ℕ, arith, ap}
+use Rattle.std.proofs.Common.{arith, ap}
 use Rattle.order.specs.declared.record.TaskRow.{TaskRow}
 use Rattle.order.specs.declared.record.FinishRow.{FinishRow}
 use Rattle.order.specs.States.{state_of}
-use Rattle.order.proofs.Chains.{spawn_chain}
-use Rattle.order.proofs.Counts.{alive_le}
+use Rattle.order.proofs.Books.Chains.{spawn_chain}
+use Rattle.order.proofs.Books.Counts.{alive_le}
 use Rattle.order.proofs.book.Book.spawn.Goals as goal
 
 pub returns-clause-kept : goal.returns-clause-kept

@@ -1,6 +1,6 @@
-use Rattle.std.proofs.Common.{◌≡◌, ◌∙◌}
+use Rattle.std.proofs.Common.{◌∙◌}
 use Rattle.order.specs.States.{state_of}
-use Rattle.order.proofs.GraphEarlier.{both_held, earlier_by}
+use Rattle.order.proofs.Graphs.Earlier.{both_held, earlier_by}
 use Rattle.order.proofs.graph.GraphKeeperHappensBefore.earlier.Goals as goal
 
 pub returns : goal.returns

@@ -1,6 +1,6 @@
-use Rattle.std.proofs.Common.{◌≡◌, arith}
+use Rattle.std.proofs.Common.{arith}
 use Rattle.order.specs.States.{state_of}
-use Rattle.order.proofs.GraphKept.{graph_cleared}
+use Rattle.order.proofs.Graphs.Kept.{graph_cleared}
 use Rattle.order.proofs.graph.GraphKeeperKeeper.empty.Goals as goal
 
 pub invariant_of-self : goal.invariant_of-self

@@ -1,6 +1,6 @@
 use Rattle.order.specs.States.{state_of}
-use Rattle.order.proofs.Sounds.{passed}
-use Rattle.order.proofs.GraphCalls.{opens}
+use Rattle.order.proofs.Keeping.Sounds.{passed}
+use Rattle.order.proofs.Graphs.Calls.{opens}
 use Rattle.order.proofs.graph.GraphKeeperKeeper.open.Goals as goal
 
 pub invariant_of-self : goal.invariant_of-self

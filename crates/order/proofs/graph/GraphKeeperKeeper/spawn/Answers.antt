@@ -1,6 +1,6 @@
 use Rattle.order.specs.States.{state_of}
-use Rattle.order.proofs.Sounds.{passed}
-use Rattle.order.proofs.GraphCalls.{spawns}
+use Rattle.order.proofs.Keeping.Sounds.{passed}
+use Rattle.order.proofs.Graphs.Calls.{spawns}
 use Rattle.order.proofs.graph.GraphKeeperKeeper.spawn.Goals as goal
 
 pub invariant_of-self : goal.invariant_of-self

@@ -1,7 +1,7 @@
 use Rattle.std.proofs.Common.{◌≡◌, ◌/◌, ap, sym, ◌∙◌, arith}
 use Rattle.order.specs.States.{state_of}
 use Rattle.order.specs.Graphs.{ways_in}
-use Rattle.order.proofs.Searching.{met_back, met_done}
+use Rattle.order.proofs.Graphs.Searching.{met_back, met_done}
 use Rattle.order.proofs.graph.search.met.Goals as goal
 
 pub loop-x-preserved : goal.loop-x-preserved

@@ -1,7 +1,7 @@
 use Rattle.std.proofs.Common.{◌-◌, sym, ◌∙◌, arith}
 use Rattle.order.specs.States.{state_of}
 use Rattle.order.specs.Graphs.{ways_in}
-use Rattle.order.proofs.Searching.{outlet_fuel, outlet_on, outlet_done, outlet_past}
+use Rattle.order.proofs.Graphs.Searching.{outlet_fuel, outlet_on, outlet_done, outlet_past}
 use Rattle.order.proofs.graph.search.outlet.Goals as goal
 
 pub loop-y-init : goal.loop-y-init

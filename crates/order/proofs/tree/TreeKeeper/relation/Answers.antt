@@ -1,5 +1,5 @@
 use Rattle.order.specs.States.{state_of}
-use Rattle.order.proofs.TreeRelation.{labelled_by, grown_by, told_by}
+use Rattle.order.proofs.Trees.Relation.{labelled_by, grown_by, told_by}
 use Rattle.order.proofs.tree.TreeKeeper.relation.Goals as goal
 
 pub returns-then-a-self-clause-labelled : goal.returns-then-a-self-clause-labelled

@@ -1,6 +1,6 @@
 use Rattle.order.specs.States.{state_of}
-use Rattle.order.proofs.Sounds.{passed, stayed}
-use Rattle.order.proofs.TreeCalls.{closes}
+use Rattle.order.proofs.Keeping.Sounds.{passed, stayed}
+use Rattle.order.proofs.Trees.Calls.{closes}
 use Rattle.model.specs.Orders.{closed}
 use Rattle.order.specs.Calls.{close_fault}
 use Rattle.order.specs.Trees.{tree_order}

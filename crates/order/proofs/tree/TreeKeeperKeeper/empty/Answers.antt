@@ -1,6 +1,6 @@
-use Rattle.std.proofs.Common.{◌≡◌, arith}
+use Rattle.std.proofs.Common.{arith}
 use Rattle.order.specs.States.{state_of}
-use Rattle.order.proofs.TreeKept.{tree_cleared}
+use Rattle.order.proofs.Trees.Kept.{tree_cleared}
 use Rattle.order.proofs.tree.TreeKeeperKeeper.empty.Goals as goal
 
 pub invariant_of-self : goal.invariant_of-self

@@ -1,7 +1,7 @@
 use Rattle.order.specs.States.{state_of}
-use Rattle.order.proofs.Sounds.{passed}
-use Rattle.order.proofs.TreeCalls.{ends}
-use Rattle.order.proofs.Ending.{ends_alive}
+use Rattle.order.proofs.Keeping.Sounds.{passed}
+use Rattle.order.proofs.Trees.Calls.{ends}
+use Rattle.order.proofs.Books.Ending.{ends_alive}
 use Rattle.order.proofs.tree.TreeKeeperKeeper.end.Goals as goal
 
 pub end-requires-clause-alive : goal.end-requires-clause-alive

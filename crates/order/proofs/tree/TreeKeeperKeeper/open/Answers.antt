@@ -1,6 +1,6 @@
 use Rattle.order.specs.States.{state_of}
-use Rattle.order.proofs.Sounds.{passed}
-use Rattle.order.proofs.TreeCalls.{opens}
+use Rattle.order.proofs.Keeping.Sounds.{passed}
+use Rattle.order.proofs.Trees.Calls.{opens}
 use Rattle.order.proofs.tree.TreeKeeperKeeper.open.Goals as goal
 
 pub invariant_of-self : goal.invariant_of-self

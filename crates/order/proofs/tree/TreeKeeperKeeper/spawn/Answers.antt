@@ -1,6 +1,6 @@
 use Rattle.order.specs.States.{state_of}
-use Rattle.order.proofs.Sounds.{passed}
-use Rattle.order.proofs.TreeCalls.{spawns}
+use Rattle.order.proofs.Keeping.Sounds.{passed}
+use Rattle.order.proofs.Trees.Calls.{spawns}
 use Rattle.order.proofs.tree.TreeKeeperKeeper.spawn.Goals as goal
 
 pub invariant_of-self : goal.invariant_of-self

@@ -1,0 +1,8 @@
+-- The graph keeper.
+pub mod Searching
+pub mod Alike
+pub mod Labels
+pub mod Earlier
+pub mod Drawn
+pub mod Kept
+pub mod Calls

@@ -1,0 +1,3 @@
+-- What either keeper owes.
+pub mod Agree
+pub mod Sounds

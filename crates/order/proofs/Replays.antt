@@ -1,0 +1,3 @@
+-- Lists of calls.
+pub mod Replaying
+pub mod Reaching
