@@ -9,3 +9,4 @@ pub mod Trees
 pub mod Graphs
 pub mod Keepers
 pub mod Replays
+pub mod Examples

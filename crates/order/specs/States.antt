@@ -6,8 +6,8 @@ use Rattle.order.specs.declared.record.Link.{Link}
 use Rattle.order.specs.declared.record.TaskRow.{TaskRow}
 use Rattle.order.specs.declared.record.FinishRow.{FinishRow}
 use Rattle.order.specs.declared.record.Seat.{Seat}
-use Rattle.order.specs.declared.record.Record.{Record}
-use Rattle.order.specs.declared.record.Record.TheVariants as kind
+use Rattle.order.specs.declared.record.OrderRecord.{OrderRecord}
+use Rattle.order.specs.declared.record.OrderRecord.TheVariants as kind
 use Rattle.order.specs.declared.book.Book.{Book}
 use Rattle.order.specs.Rows.{no_link, limit_of, row_of}
 
@@ -39,19 +39,19 @@ finish_at f = 4 * f + 3
 
 -- what is read of a record
 
-abbrev pub link_in : Record → Link
+abbrev pub link_in : OrderRecord → Link
 link_in (kind.Link l) = l
 link_in r = no_link
 
-abbrev pub task_in : Record → TaskRow
+abbrev pub task_in : OrderRecord → TaskRow
 task_in (kind.Task k) = k
 task_in r = record { running = false; current = 0; inner = 0; own = 0; home = 0 }
 
-abbrev pub finish_in : Record → FinishRow
+abbrev pub finish_in : OrderRecord → FinishRow
 finish_in (kind.Finish f) = f
 finish_in r = record { outer = 0; alive = 0; shut = 0 }
 
-abbrev pub state_in : (ℕ → Record) → ℕ → ℕ → ℕ → ℕ → State
+abbrev pub state_in : (ℕ → OrderRecord) → ℕ → ℕ → ℕ → ℕ → State
 state_in row limit steps tasks finishes = record {
   limit = limit;
   steps = steps;

@@ -8,7 +8,7 @@ mod climb;
 mod refusals;
 mod start;
 
-use crate::record::{FinishRow, Link, Record, TaskRow};
+use crate::record::{FinishRow, Link, OrderRecord, TaskRow};
 use crate::rows::Rows;
 
 // Steps, tasks and finishes are numbered from 0 as they are made; these are how many there are.
@@ -34,7 +34,7 @@ impl<'a> Book<'a> {
         ensures value { result ≡ (state_of self.now).link p }
     {
         match self.rows.get((p / 2 * 4 + p % 2) as usize) {
-            Record::Link(link) => link,
+            OrderRecord::Link(link) => link,
             _ => Link { up: 0, turn: 0 },
         }
     }
@@ -45,7 +45,7 @@ impl<'a> Book<'a> {
         ensures hung { state_of self.new ≡ record (state_of self.old) { link = put (state_of self.old).link p link } }
     {
         self.rows
-            .set((p / 2 * 4 + p % 2) as usize, Record::Link(link));
+            .set((p / 2 * 4 + p % 2) as usize, OrderRecord::Link(link));
     }
 
     // The task t.
@@ -54,7 +54,7 @@ impl<'a> Book<'a> {
         ensures value { result ≡ (state_of self.now).task t }
     {
         match self.rows.get((4 * t + 2) as usize) {
-            Record::Task(task) => task,
+            OrderRecord::Task(task) => task,
             _ => TaskRow {
                 running: false,
                 current: 0,
@@ -69,7 +69,7 @@ impl<'a> Book<'a> {
         requires { Room (state_of self.old) t }
         ensures set { state_of self.new ≡ record (state_of self.old) { task = put (state_of self.old).task t task } }
     {
-        self.rows.set((4 * t + 2) as usize, Record::Task(task));
+        self.rows.set((4 * t + 2) as usize, OrderRecord::Task(task));
     }
 
     // The finish f.
@@ -78,7 +78,7 @@ impl<'a> Book<'a> {
         ensures value { result ≡ (state_of self.now).finish f }
     {
         match self.rows.get((4 * f + 3) as usize) {
-            Record::Finish(finish) => finish,
+            OrderRecord::Finish(finish) => finish,
             _ => FinishRow {
                 outer: 0,
                 alive: 0,
@@ -91,6 +91,7 @@ impl<'a> Book<'a> {
         requires { Room (state_of self.old) f }
         ensures set { state_of self.new ≡ record (state_of self.old) { finish = put (state_of self.old).finish f finish } }
     {
-        self.rows.set((4 * f + 3) as usize, Record::Finish(finish));
+        self.rows
+            .set((4 * f + 3) as usize, OrderRecord::Finish(finish));
     }
 }

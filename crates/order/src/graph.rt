@@ -10,7 +10,7 @@ mod seats;
 use crate::book::Book;
 use crate::fault::OrderFault;
 use crate::keeper::{HappensBefore, Keeper, TaskStage};
-use crate::record::Record;
+use crate::record::OrderRecord;
 
 // The order of a job's steps, as a graph, over lent records.
 #[derive(Drop)]
@@ -25,7 +25,7 @@ impl<'a> GraphKeeper<'a> {
     ghost use Rattle.order.specs.Keepers.{graph_meaning};
 
     // A keeper of 1 step, and one more for every four records.
-    pub fn new(records: &'a mut [Record]) -> GraphKeeper<'a>
+    pub fn new(records: &'a mut [OrderRecord]) -> GraphKeeper<'a>
         ensures emptied { graph_meaning result ≡ emptied (1 + length records.old / 4) }
     {
         GraphKeeper {

@@ -35,8 +35,13 @@ pub struct FinishRow {
 
 // One record of the memory that a keeper is lent. A number has four: the links of two places, a task and a finish.
 #[derive(Clone, Copy, PartialEq, Eq, Debug)]
-pub enum Record {
+pub enum OrderRecord {
     Link(Link),
     Task(TaskRow),
     Finish(FinishRow),
+}
+
+impl OrderRecord {
+    // What to make the memory of that a keeper is lent. It may hold anything.
+    pub const BLANK: OrderRecord = OrderRecord::Link(Link { up: 0, turn: 0 });
 }

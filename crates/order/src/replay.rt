@@ -3,6 +3,7 @@ ghost use Rattle.std.specs.Prelude.{◌≡◌, IsTrue};
 ghost use Rattle.model.specs.Orders.{emptied};
 ghost use Rattle.order.specs.Calls.{reply};
 ghost use Rattle.order.specs.Replays.{fault_of, answer_of, after_call, after_calls, SaysReached};
+ghost use Rattle.order.specs.Examples.{RoomShown, FirstFaults};
 
 use crate::fault::OrderFault;
 use crate::keeper::Keeper;
@@ -32,6 +33,8 @@ impl OrderCall {
     pub fn make<K: Keeper>(self, keeper: &mut K) -> Result<Made, OrderFault>
         ensures answered { result ≡ reply (fault_of (K.meaning keeper.old) self) (answer_of (K.meaning keeper.old) self) }
         ensures kept { K.meaning keeper.new ≡ after_call (K.meaning keeper.old) self }
+        ensures room { RoomShown }
+        ensures first { FirstFaults }
     {
         Ok(match self {
             OrderCall::Spawn { task } => {

@@ -3,13 +3,13 @@ ghost use Rattle.std.specs.Prelude.{◌≡◌, ◌+◌, ◌*◌, ◌<◌};
 ghost use Rattle.model.specs.Lists.{put};
 ghost use Rattle.order.specs.Rows.{limit_of, row_of};
 
-use crate::record::Record;
+use crate::record::OrderRecord;
 
 // The records of number 0, and those that were lent.
 #[derive(Drop)]
 pub struct Rows<'a> {
-    pub first: [Record; 4],
-    pub lent: &'a mut [Record],
+    pub first: [OrderRecord; 4],
+    pub lent: &'a mut [OrderRecord],
 }
 
 impl<'a> Rows<'a> {
@@ -21,7 +21,7 @@ impl<'a> Rows<'a> {
     }
 
     // The record with the index i.
-    pub fn get(&self, i: usize) -> Record
+    pub fn get(&self, i: usize) -> OrderRecord
         requires { i < 4 * limit_of self.now }
         ensures value { result ≡ row_of self.now i }
     {
@@ -33,7 +33,7 @@ impl<'a> Rows<'a> {
     }
 
     // Writes the record with the index i.
-    pub fn set(&mut self, i: usize, row: Record)
+    pub fn set(&mut self, i: usize, row: OrderRecord)
         requires { i < 4 * limit_of self.old }
         ensures limit { limit_of self.new ≡ limit_of self.old }
         ensures set { row_of self.new ≡ put (row_of self.old) i row }

@@ -10,7 +10,7 @@ mod seats;
 use crate::book::Book;
 use crate::fault::OrderFault;
 use crate::keeper::{HappensBefore, Keeper, TaskStage};
-use crate::record::Record;
+use crate::record::OrderRecord;
 
 // How two steps stand, and how many links are climbed from both to their lowest common ancestor.
 #[derive(Clone, Copy, PartialEq, Eq, Debug)]
@@ -34,7 +34,7 @@ impl<'a> TreeKeeper<'a> {
     ghost use Rattle.order.specs.Keepers.{tree_meaning, labels_of, TreeGrown, relation_in};
 
     // A keeper of 1 step, and one more for every four records.
-    pub fn new(records: &'a mut [Record]) -> TreeKeeper<'a>
+    pub fn new(records: &'a mut [OrderRecord]) -> TreeKeeper<'a>
         ensures emptied { tree_meaning result ≡ emptied (1 + length records.old / 4) }
     {
         TreeKeeper {

@@ -6,8 +6,8 @@ use Rattle.model.specs.Lists.{put}
 use Rattle.order.specs.declared.record.Link.{Link}
 use Rattle.order.specs.declared.record.TaskRow.{TaskRow}
 use Rattle.order.specs.declared.record.FinishRow.{FinishRow}
-use Rattle.order.specs.declared.record.Record.{Record}
-use Rattle.order.specs.declared.record.Record.TheVariants as kind
+use Rattle.order.specs.declared.record.OrderRecord.{OrderRecord}
+use Rattle.order.specs.declared.record.OrderRecord.TheVariants as kind
 use Rattle.order.specs.States.{State, state_in, link_at, task_at, finish_at, link_in, task_in, finish_in}
 
 pub put_at : {A : Type 0} (f : ℕ → A) (k : ℕ) (v : A) (x : ℕ) → x ≡ k → put f k v x ≡ v
@@ -17,18 +17,18 @@ pub put_off : {A : Type 0} (f : ℕ → A) (k : ℕ) (v : A) (x : ℕ) → (x �
 put_off f k v x d = cond-false (x == k) v (f x) (ne_eqb x k d)
 
 -- what is read of the records that lie apart from one another, when one of them is written
-module _ {A : Type 0} (read : Record → A) (at : ℕ → ℕ) (row : ℕ → Record) where
-  abbrev all : (ℕ → Record) → ℕ → A
+module _ {A : Type 0} (read : OrderRecord → A) (at : ℕ → ℕ) (row : ℕ → OrderRecord) where
+  abbrev all : (ℕ → OrderRecord) → ℕ → A
   all rows j = read (rows (at j))
 
-  pub read_same : (k : ℕ) (v : Record) → ((j : ℕ) → at j ≡ at k → j ≡ k) → all (put row (at k) v) ≡ put (all row) k (read v)
+  pub read_same : (k : ℕ) (v : OrderRecord) → ((j : ℕ) → at j ≡ at k → j ≡ k) → all (put row (at k) v) ≡ put (all row) k (read v)
   read_same k v one = fun_ext (λ j. go j (cases_eq j k))
     where
       go : (j : ℕ) → (j ≡ k) ⊎ (j ≡ k → ⊥) → all (put row (at k) v) j ≡ put (all row) k (read v) j
       go j (inl e) = ap read (put_at row (at k) v (at j) (ap at e)) ∙ sym (put_at (all row) k (read v) j e)
       go j (inr d) = ap read (put_off row (at k) v (at j) (λ e. d (one j e))) ∙ sym (put_off (all row) k (read v) j d)
 
-  pub read_else : (i : ℕ) (v : Record) → ((j : ℕ) → at j ≡ i → ⊥) → all (put row i v) ≡ all row
+  pub read_else : (i : ℕ) (v : OrderRecord) → ((j : ℕ) → at j ≡ i → ⊥) → all (put row i v) ≡ all row
   read_else i v off = fun_ext (λ j. ap read (put_off row i v (at j) (off j)))
 
 same_parts : (l l₂ s t f : ℕ) (a a₂ : ℕ → Link) (b b₂ : ℕ → TaskRow) (c c₂ : ℕ → FinishRow) → l ≡ l₂ → a ≡ a₂ → b ≡ b₂ → c ≡ c₂
@@ -37,7 +37,7 @@ same_parts : (l l₂ s t f : ℕ) (a a₂ : ℕ → Link) (b b₂ : ℕ → Task
 same_parts l l₂ s t f a a₂ b b₂ c c₂ d e g h = cc
 
 -- of the rows r, the rows q with one record written
-module _ (r q : ℕ → Record) (limit limit₂ steps tasks finishes : ℕ) (same : limit₂ ≡ limit) where
+module _ (r q : ℕ → OrderRecord) (limit limit₂ steps tasks finishes : ℕ) (same : limit₂ ≡ limit) where
   abbrev st : State
   st = state_in r limit steps tasks finishes
 

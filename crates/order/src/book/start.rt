@@ -4,22 +4,22 @@ ghost use Rattle.order.specs.States.{state_of, Cleared};
 ghost use Rattle.order.specs.Rows.{first_rows};
 
 use super::Book;
-use crate::record::{FinishRow, Link, Record, TaskRow};
+use crate::record::{FinishRow, Link, OrderRecord, TaskRow};
 use crate::rows::Rows;
 
 // The records of number 0: step 0 hangs from place 0, and task 0 is on it, in finish 0.
-fn first_rows() -> [Record; 4]
+fn first_rows() -> [OrderRecord; 4]
     ensures value { result ≡ first_rows }
 {
-    let root = Record::Link(Link { up: 0, turn: 0 });
-    let task = Record::Task(TaskRow {
+    let root = OrderRecord::Link(Link { up: 0, turn: 0 });
+    let task = OrderRecord::Task(TaskRow {
         running: true,
         current: 0,
         inner: 0,
         own: 0,
         home: 0,
     });
-    let outer = Record::Finish(FinishRow {
+    let outer = OrderRecord::Finish(FinishRow {
         outer: 0,
         alive: 1,
         shut: 0,
@@ -28,7 +28,7 @@ fn first_rows() -> [Record; 4]
 }
 
 impl<'a> Book<'a> {
-    pub fn new(records: &'a mut [Record]) -> Book<'a>
+    pub fn new(records: &'a mut [OrderRecord]) -> Book<'a>
         ensures cleared { Cleared (1 + length records.old / 4) (state_of result) }
         ensures small { (state_of result).limit ≤ 2 ^ 62 }
     {

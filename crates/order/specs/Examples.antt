@@ -1,0 +1,41 @@
+-- How much a keeper may hold, and which of two refusals is given, by computation.
+use Rattle.std.specs.Prelude.{◌≡◌, ℕ, ◌+◌, ◌/◌, List, [], ◌∷◌, ◌++◌, Some, None, Option}
+use Rattle.model.specs.Orders.{Order, emptied}
+use Rattle.order.specs.declared.fault.OrderFault.{OrderFault}
+use Rattle.order.specs.declared.fault.OrderFault.TheVariants.{TaskEnded, NoFinishOpen, FinishNotEmpty, FinishOpen, NoStepFree}
+use Rattle.order.specs.declared.replay.OrderCall.{OrderCall}
+use Rattle.order.specs.declared.replay.OrderCall.TheVariants.{Spawn, Open, Close, End}
+use Rattle.order.specs.Replays.{fault_of, after_calls}
+
+-- what a keeper that was lent n records says to one more call after others
+abbrev pub refused_with : ℕ → List OrderCall → OrderCall → Option OrderFault
+refused_with n cs c = fault_of (after_calls (emptied (1 + n / 4)) cs) c
+
+-- eight records are for two steps: one spawn, and then an open is refused, or an end and a spawn of the child's
+-- with seven there is one step less, and with none there are step 0, task 0 and the outer finish alone
+abbrev pub RoomShown : Type 0
+RoomShown =
+    (refused_with 8 [] (Spawn 0) ≡ None)
+    × (refused_with 8 (Spawn 0 ∷ []) (Open 0) ≡ Some NoStepFree)
+    × (refused_with 8 (Spawn 0 ∷ []) (End 1) ≡ None)
+    × (refused_with 7 [] (Spawn 0) ≡ Some NoStepFree)
+    × (refused_with 7 [] (Open 0) ≡ None)
+    × (refused_with 7 (Spawn 0 ∷ []) (Open 0) ≡ None)
+    × (refused_with 0 [] (Open 0) ≡ Some NoStepFree)
+    × (refused_with 0 [] (End 0) ≡ None)
+    × (refused_with 0 (End 0 ∷ []) (End 0) ≡ Some TaskEnded)
+
+-- where two refusals fit, the first of 13, 14, 15, 16, 17 is given
+abbrev pub FirstFaults : Type 0
+FirstFaults =
+    -- a task that is not held, with no step free; a task that has ended, with no finish open
+    (refused_with 0 [] (Spawn 1) ≡ Some TaskEnded)
+    × (refused_with 4 (End 0 ∷ []) (Close 0) ≡ Some TaskEnded)
+    -- a task lives in the finish where it lives itself: with none of its own open, its close is refused by 14
+    × (refused_with 8 (Spawn 0 ∷ []) (Close 0) ≡ Some NoFinishOpen)
+    -- task 1 lives in the finish that task 0 opened, and no step is free
+    × (refused_with 12 (Open 0 ∷ Spawn 0 ∷ []) (Close 0) ≡ Some FinishNotEmpty)
+    × (refused_with 12 (Open 0 ∷ Spawn 0 ∷ End 1 ∷ []) (Close 0) ≡ Some NoStepFree)
+    × (refused_with 16 (Open 0 ∷ Spawn 0 ∷ End 1 ∷ []) (Close 0) ≡ None)
+    × (refused_with 4 (Open 0 ∷ []) (End 0) ≡ Some FinishOpen)
+    × (refused_with 8 (Open 0 ∷ Close 0 ∷ []) (End 0) ≡ None)
