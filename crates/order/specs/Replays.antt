@@ -1,5 +1,5 @@
 -- Lists of calls: which order they lead to, refused ones included.
-use Rattle.std.specs.Prelude.{◌≡◌, ℕ, ◌+◌, List, [], ◌∷◌, Option}
+use Rattle.std.specs.Prelude.{◌≡◌, ℕ, ◌+◌, ◌≤◌, false, ◌⊎◌, List, [], ◌∷◌, Option}
 use Rattle.model.specs.Orders.{Order, emptied, spawned, opened, closed, done}
 use Rattle.model.specs.Reached.{Reached}
 use Rattle.order.specs.declared.fault.OrderFault.{OrderFault}
@@ -48,3 +48,13 @@ standing_in m a b = record { before = m.before a b; earlier = m.earlier a b }
 -- about the steps a and b is what it says of them
 abbrev pub SaysReached : ℕ → List OrderCall → ℕ → ℕ → Standing → Type 0
 SaysReached limit cs a b r = Reached limit (after_calls (emptied limit) cs) × (r ≡ standing_in (after_calls (emptied limit) cs) a b)
+
+-- neither before nor earlier
+abbrev pub neither : Standing
+neither = record { before = false; earlier = false }
+
+-- of a step against itself, and of a step that is not held, it says no
+abbrev pub SaysNo : ℕ → List OrderCall → ℕ → ℕ → Standing → Type 0
+SaysNo limit cs a b r =
+    let m = after_calls (emptied limit) cs in
+    (a ≡ b) ⊎ ((m.steps ≤ a) ⊎ (m.steps ≤ b)) → r ≡ neither

@@ -2,7 +2,7 @@
 ghost use Rattle.std.specs.Prelude.{◌≡◌, IsTrue};
 ghost use Rattle.model.specs.Orders.{emptied};
 ghost use Rattle.order.specs.Calls.{reply};
-ghost use Rattle.order.specs.Replays.{fault_of, answer_of, after_call, after_calls, SaysReached};
+ghost use Rattle.order.specs.Replays.{fault_of, answer_of, after_call, after_calls, SaysReached, SaysNo};
 ghost use Rattle.order.specs.Examples.{RoomShown, FirstFaults};
 
 use crate::fault::OrderFault;
@@ -69,6 +69,7 @@ fn make_all<K: Keeper>(keeper: &mut K, calls: &[OrderCall])
 pub fn stand_after<K: Keeper>(keeper: &mut K, calls: &[OrderCall], a: u64, b: u64) -> Standing
     ensures kept { K.meaning keeper.new ≡ after_calls (emptied (K.meaning keeper.old).limit) calls.now }
     ensures reached { SaysReached (K.meaning keeper.old).limit calls.now a b result }
+    ensures no { SaysNo (K.meaning keeper.old).limit calls.now a b result }
 {
     make_all(keeper, calls);
     Standing {

@@ -1,16 +1,17 @@
 -- Any list of calls leads to an order that calls of running tasks reach.
 use Rattle.std.proofs.lemmas.Bool.Decides.{nat_tests}
-use Rattle.std.proofs.Common.{◌≡◌, ℕ, suc, ◌<◌, Bool, true, false, not, T, List, [], ◌∷◌, Some, None, Option, refl, sym, subst, arith}
+use Rattle.std.proofs.Common.{◌≡◌, ◌≤◌, ◌⊎◌, inl, inr, ◌∙◌, ℕ, suc, ◌<◌, Bool, true, false, not, T, List, [], ◌∷◌, Some, None, Option, refl, sym, subst, arith}
 use Rattle.model.specs.Lists.{any, below, head_or}
 use Rattle.model.specs.Orders.{Order, has_own, lived}
 use Rattle.model.specs.Reached.{Reached, start, by_spawn, by_open, by_close, by_end}
 use Rattle.model.specs.Shapes.{Stack}
-use Rattle.model.proofs.Trees.Reached.{reached_shape}
+use Rattle.model.proofs.Trees.Reached.{reached_shape, reached_laws}
 use Rattle.order.specs.declared.fault.OrderFault.{OrderFault}
 use Rattle.order.specs.declared.replay.OrderCall.{OrderCall}
 use Rattle.order.specs.declared.replay.OrderCall.TheVariants.{Spawn, Open, Close, End}
+use Rattle.order.specs.declared.replay.Standing.{Standing}
 use Rattle.order.specs.Calls.{first, spawn_tests, open_tests, close_tests, end_tests, moved}
-use Rattle.order.specs.Replays.{fault_of, made, after_call, after_calls}
+use Rattle.order.specs.Replays.{fault_of, made, after_call, after_calls, standing_in, neither}
 
 -- a task that lives somewhere is held
 lives_held : (limit : ℕ) (m : Order) → Reached limit m → (f u : ℕ) → T (m.lives f u) → u < m.tasks
@@ -79,3 +80,20 @@ either_reached limit m r c (Some f) e = subst (λ z. Reached limit (moved z m (m
 pub calls_reached : (limit : ℕ) (m : Order) → Reached limit m → (cs : List OrderCall) → Reached limit (after_calls m cs)
 calls_reached limit m r [] = r
 calls_reached limit m r (c ∷ cs) = calls_reached limit (after_call m c) (either_reached limit m r c (fault_of m c) refl) cs
+
+-- a reached order says no of a step against itself, and of one that is not held
+pub says_no : (limit : ℕ) (m : Order) → Reached limit m → (a b : ℕ) → (a ≡ b) ⊎ ((m.steps ≤ a) ⊎ (m.steps ≤ b))
+    → standing_in m a b ≡ neither
+says_no limit m r a b why =
+    let laws = reached_laws limit m r in
+    let late : T (m.earlier a b) → ⊥ = λ e. elim why [
+      | inl same ↦ laws.earlier_irrefl b (subst (λ x. T (m.earlier x b)) same e)
+      | inr (inl out) ↦ omega (arith, out, (laws.earlier_held a b e).0)
+      | inr (inr out) ↦ omega (arith, out, (laws.earlier_held a b e).1)
+    ] in
+    no (m.before a b) (m.earlier a b) (λ e. late (laws.before_earlier a b e)) late
+  where
+    no : (p q : Bool) → (T p → ⊥) → (T q → ⊥) → ◌≡◌ {A = Standing} (record { before = p; earlier = q }) neither
+    no true q f g = absurd (f tt)
+    no false true f g = absurd (g tt)
+    no false false f g = refl
