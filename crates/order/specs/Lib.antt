@@ -10,3 +10,4 @@ pub mod Graphs
 pub mod Keepers
 pub mod Replays
 pub mod Examples
+pub mod Edges

@@ -13,6 +13,6 @@ mod tree;
 pub use fault::OrderFault;
 pub use graph::GraphKeeper;
 pub use keeper::{HappensBefore, Keeper, TaskStage};
-pub use record::{FinishRow, Link, OrderRecord, TaskRow};
+pub use record::OrderRecord;
 pub use replay::{Made, OrderCall, Standing, agree_after, stand_after};
 pub use tree::{Relation, TreeKeeper};
