@@ -5,4 +5,3 @@ pub mod Labels
 pub mod Earlier
 pub mod Drawn
 pub mod Kept
-pub mod Calls

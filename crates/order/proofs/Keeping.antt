@@ -1,3 +1,4 @@
 -- What either keeper owes.
 pub mod Agree
-pub mod Sounds
+pub mod Ready
+pub mod Calls

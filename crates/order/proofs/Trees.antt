@@ -4,4 +4,3 @@ pub mod Told
 pub mod Here
 pub mod Kept
 pub mod Relation
-pub mod Calls

@@ -4,8 +4,9 @@ use Rattle.model.specs.Orders.{Order}
 use Rattle.model.specs.Labels.{left}
 use Rattle.model.specs.Reached.{Reached}
 use Rattle.order.specs.declared.record.Seat.{Seat}
-use Rattle.order.specs.States.{State, place, order_with, spawn_book, open_book, close_book}
+use Rattle.order.specs.States.{State, place}
 use Rattle.order.specs.Invariants.{Plain}
+use Rattle.order.specs.Plans.{Plan, order_by}
 use Rattle.order.specs.Ways.{Ways, way, searched, ways_of}
 
 -- A step x stands at the place 2 x + 1, and hangs from the step that it comes from, by the turn x. At the place 2 x stands, as if
@@ -19,9 +20,6 @@ ways_in st = record {
   shut = λ f. (st.finish f).shut;
 }
 
-abbrev pub graph_order : State → Order
-graph_order st = order_with (searched (ways_in st)) (λ a b. left (way (ways_in st) a) (way (ways_in st) b)) st
-
 -- the new step x comes from the step s, of a task that lives in the finish f
 abbrev pub comes_from : ℕ → ℕ → ℕ → Seat
 comes_from x s f = record { node = record { up = f; turn = 0 }; leaf = record { up = place s; turn = x } }
@@ -30,14 +28,19 @@ comes_from x s f = record { node = record { up = f; turn = 0 }; leaf = record { 
 abbrev pub goes_on : State → ℕ → ℕ → Seat
 goes_on st t x = comes_from x (st.task t).current (st.link (2 * (st.task t).current)).up
 
-abbrev pub graph_spawn : State → ℕ → State
-graph_spawn st t = spawn_book st t (comes_from st.steps (st.task t).current (st.task t).inner) (goes_on st t (st.steps + 1))
+-- a new task's first step comes from the spawner's, and the task lives in the spawner's innermost finish; any other step goes on
+abbrev pub graph_plan : Plan
+graph_plan = record {
+  child_seat = λ st t. comes_from st.steps (st.task t).current (st.task t).inner;
+  next_seat = λ st t. goes_on st t (st.steps + 1);
+  open_seat = λ st t. goes_on st t st.steps;
+  close_seat = λ st t. goes_on st t st.steps;
+  before = λ st. searched (ways_in st);
+  earlier = λ st a b. left (way (ways_in st) a) (way (ways_in st) b);
+}
 
-abbrev pub graph_open : State → ℕ → State
-graph_open st t = open_book st t (goes_on st t st.steps)
-
-abbrev pub graph_close : State → ℕ → State
-graph_close st t = close_book st t (goes_on st t st.steps)
+abbrev pub graph_order : State → Order
+graph_order = order_by graph_plan
 
 -- a search can go on from every step
 pub record Searchable (st : State) : Type 0 where

@@ -4,6 +4,7 @@ pub mod Ways
 pub mod Rows
 pub mod States
 pub mod Invariants
+pub mod Plans
 pub mod Forks
 pub mod Trees
 pub mod Graphs

@@ -7,8 +7,9 @@ use Rattle.model.specs.Trees.{tree_of}
 use Rattle.order.specs.declared.record.Link.{Link}
 use Rattle.order.specs.declared.record.Seat.{Seat}
 use Rattle.order.specs.Rows.{no_link}
-use Rattle.order.specs.States.{State, place, order_with, spawn_book, open_book, close_book}
+use Rattle.order.specs.States.{State, place}
 use Rattle.order.specs.Invariants.{Plain}
+use Rattle.order.specs.Plans.{Plan, order_by}
 use Rattle.order.specs.Forks.{label}
 
 -- A step x stands at the place 2 x + 1. The node of a task or a finish stands at the place 2 x of the first step x in it.
@@ -16,9 +17,6 @@ use Rattle.order.specs.Forks.{label}
 -- the label of a step
 abbrev pub step_label : State → ℕ → Label
 step_label st x = label st.link (place x)
-
-abbrev pub tree_order : State → Order
-tree_order st = order_with (λ a b. over (step_label st a) (step_label st b)) (λ a b. left (step_label st a) (step_label st b)) st
 
 -- where the step hangs that a task is on
 abbrev pub leaf_of : State → ℕ → Link
@@ -32,17 +30,20 @@ in_node st t n = record { node = record { up = (leaf_of st t).up; turn = (leaf_o
 abbrev pub right_of : Link → Seat
 right_of l = record { node = no_link; leaf = record { up = l.up; turn = l.turn + 2 } }
 
--- a spawn makes a node for the task, with its first step in it, and a step to the right of that
-abbrev pub tree_spawn : State → ℕ → State
-tree_spawn st t = spawn_book st t (in_node st t 1) (right_of (leaf_of st t))
+-- a spawn makes a node for the task, with its first step in it, and a step to the right of that; an open makes a node for the finish,
+-- with the task's next step in it; a close makes a step to the right of the finish's node, under which the task's step hangs
+abbrev pub tree_plan : Plan
+tree_plan = record {
+  child_seat = λ st t. in_node st t 1;
+  next_seat = λ st t. right_of (leaf_of st t);
+  open_seat = λ st t. in_node st t 2;
+  close_seat = λ st t. right_of (st.link (leaf_of st t).up);
+  before = λ st a b. over (step_label st a) (step_label st b);
+  earlier = λ st a b. left (step_label st a) (step_label st b);
+}
 
--- an open makes a node for the finish, with the task's next step in it
-abbrev pub tree_open : State → ℕ → State
-tree_open st t = open_book st t (in_node st t 2)
-
--- a close makes a step to the right of the finish's node, under which the task's step hangs
-abbrev pub tree_close : State → ℕ → State
-tree_close st t = close_book st t (right_of (st.link (leaf_of st t).up))
+abbrev pub tree_order : State → Order
+tree_order = order_by tree_plan
 
 -- the place p is a node with its first step under it
 abbrev pub Node : State → ℕ → Type 0

@@ -1,5 +1,5 @@
 // What either keeper holds: how places hang, its tasks and its finishes, in lent records.
-ghost use Rattle.std.specs.Prelude.{◌≡◌, ◌/◌};
+ghost use Rattle.std.specs.Prelude.{◌≡◌, ◌/◌, ◌&&◌, nat_lt};
 ghost use Rattle.model.specs.Lists.{put};
 ghost use Rattle.order.specs.States.{state_of, Room};
 
@@ -26,6 +26,13 @@ impl<'a> Book<'a> {
         ensures value { result ≡ (state_of self.now).limit }
     {
         self.rows.limit()
+    }
+
+    // Whether both steps are held.
+    pub fn holds(&self, a: u64, b: u64) -> bool
+        ensures value { let st = state_of self.now in result ≡ (nat_lt a st.steps && nat_lt b st.steps) }
+    {
+        a < self.steps && b < self.steps
     }
 
     // Where the place p hangs.

@@ -5,9 +5,11 @@ mod book;
 mod fault;
 mod graph;
 mod keeper;
+mod plan;
 mod record;
 mod replay;
 mod rows;
+mod step_keeper;
 mod tree;
 
 pub use fault::OrderFault;

@@ -1,8 +1,7 @@
 -- The fork at which the ways back from two steps meet tells which is earlier.
 use Rattle.std.proofs.Props.{props}
 use Rattle.std.proofs.Math.Logic.{∥∥₁_elim}
-use Rattle.std.proofs.lemmas.Bool.{ltb-true}
-use Rattle.std.proofs.Common.{◌≡◌, ◌≢◌, ℕ, zero, suc, ◌<◌, Bool, true, false, ◌&&◌, ◌⊎◌, inl, inr, nat_lt, refl, sym, ap, ◌∙◌, arith}
+use Rattle.std.proofs.Common.{◌≡◌, ◌≢◌, ℕ, zero, suc, ◌<◌, ◌⊎◌, inl, inr, nat_lt, refl, sym, ap, ◌∙◌, arith}
 use Rattle.order.specs.declared.record.Link.{Link}
 use Rattle.order.specs.declared.book.climb.Fork.{Fork}
 use Rattle.order.specs.States.{State, place}
@@ -58,14 +57,6 @@ module _ (st : State) (w : GraphSound st) where
       let some = top_some link (place a) (place b) r f own 0 _ _ (label_is_way st w a h) (label_is_way st w b k) in
       let e = earlier_is_too link (place a) (place b) r f own (turns b k) some in
       of_held st.steps a b _ _ h k (sym (left_of_labels st w a b h k) ∙ e)
-
-pub both_held : (st : State) (a b : ℕ) → true ≡ (nat_lt a st.steps && nat_lt b st.steps) → (a < st.steps) × (b < st.steps)
-both_held st a b e = go (nat_lt a st.steps) (nat_lt b st.steps) refl refl e
-  where
-    go : (x y : Bool) → nat_lt a st.steps ≡ x → nat_lt b st.steps ≡ y → true ≡ (x && y) → (a < st.steps) × (b < st.steps)
-    go true true f g e = (ltb-true a st.steps f, ltb-true b st.steps g)
-    go false y f g e = absurd (cc e)
-    go true false f g e = absurd (cc e)
 
 pub earlier_by : (st : State) → ∥ GraphSound st ∥₁ → (a b : ℕ) → a < st.steps → b < st.steps → (r : Fork) → Forked st.link (place a) (place b) r
     → nat_lt r.left r.right ≡ (graph_order st).earlier a b

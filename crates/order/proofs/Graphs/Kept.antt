@@ -10,9 +10,11 @@ use Rattle.order.specs.Invariants.{Plain}
 use Rattle.order.specs.declared.record.FinishRow.{FinishRow}
 use Rattle.order.specs.States.{State, Cleared, chain, task_told, seated, end_book}
 use Rattle.order.specs.Ways.{Ways, unwalked, spawn_ways, next_ways, close_ways, ways_of, way, searched}
-use Rattle.order.specs.Graphs.{GraphSound, ways_in, graph_order, comes_from, goes_on, graph_spawn, graph_open, graph_close}
+use Rattle.order.specs.Plans.{Keeps, spawn_by, open_by, close_by}
+use Rattle.order.specs.Graphs.{GraphSound, ways_in, graph_order, comes_from, goes_on, graph_plan}
 use Rattle.order.proofs.Books.Writes.{put_at, put_off}
 use Rattle.order.proofs.Books.Telling.{Ready, Fits, cleared_plain, spawn_told, open_told, close_told, end_told, spawn_plain, open_plain, close_plain, end_plain, none_lives, finishes_told}
+use Rattle.order.proofs.Keeping.Ready.{keeps_by}
 use Rattle.order.proofs.Books.Starting.{cleared_told}
 use Rattle.order.proofs.Graphs.Drawn.{Hung, hung_seat, hung_more, Drawn, drawn, drawn_sound, before_is, earlier_is, not_shut}
 
@@ -38,6 +40,17 @@ cleared_drawn limit st c =
       };
       shut_told = λ f l. let e : f ≡ 0 = omega arith in ap (λ q. (st.finish q).shut) e ∙ shut;
     }
+
+-- what calls make of a book by the plan
+
+abbrev graph_spawn : State → ℕ → State
+graph_spawn = spawn_by graph_plan
+
+abbrev graph_open : State → ℕ → State
+graph_open = open_by graph_plan
+
+abbrev graph_close : State → ℕ → State
+graph_close = close_by graph_plan
 
 pub graph_cleared : (limit : ℕ) (st : State) → Cleared limit st → 0 < limit → limit ≤ 2 ^ 62
     → GraphSound st × (graph_order st ≡ emptied limit)
@@ -238,3 +251,6 @@ module _ (st : State) (w : GraphSound st) (t : ℕ) where
       kept (end_book st t) (λ m. done m t) (by_end w.order t inner w.reach (run h r) last) steps_is (end_plain st w.plain t h r o)
       (end_drawn h r)
       (end_told st w.plain t (before_in st) (earlier_in st) (before_in (end_book st t)) (earlier_in (end_book st t)) h r o)
+
+pub graph_keeps : Keeps GraphSound graph_plan
+graph_keeps = keeps_by GraphSound graph_plan (λ st w. w.plain) graph_cleared graph_spawned graph_opened graph_closed graph_ended

@@ -8,14 +8,27 @@ use Rattle.model.specs.Trees.{Tree, tree_of}
 use Rattle.order.specs.declared.record.Link.{Link}
 use Rattle.order.specs.Rows.{no_link}
 use Rattle.order.specs.States.{State, Cleared, seated, chain, end_book}
+use Rattle.order.specs.Plans.{Keeps, spawn_by, open_by, close_by}
 use Rattle.order.specs.Forks.{label}
-use Rattle.order.specs.Trees.{TreeSound, Node, step_label, tree_order, leaf_of, in_node, right_of, tree_spawn, tree_open, tree_close}
+use Rattle.order.specs.Trees.{TreeSound, Node, step_label, tree_order, leaf_of, in_node, right_of, tree_plan}
 use Rattle.order.proofs.Books.Telling.{Ready, Fits, cleared_plain, spawn_told, open_told, close_told, end_told, spawn_plain, open_plain, close_plain, end_plain, none_lives, finishes_told}
+use Rattle.order.proofs.Keeping.Ready.{keeps_by}
 use Rattle.order.proofs.Books.Starting.{cleared_told}
 use Rattle.order.proofs.Climbs.Places.{label_up}
 use Rattle.order.proofs.Trees.Seats.{Seating, label_old, node_old, labels_more, nodes_more, label_beside, label_within, node_within}
 use Rattle.order.proofs.Trees.Told.{over_of, left_of, before_told, earlier_told, call_kept}
 use Rattle.order.proofs.Trees.Here.{Here, here, child_at, next_at, inner_at, next_turn, up_old, in_fits, right_fits, in_finish}
+
+-- what calls make of a book by the plan
+
+abbrev tree_spawn : State → ℕ → State
+tree_spawn = spawn_by tree_plan
+
+abbrev tree_open : State → ℕ → State
+tree_open = open_by tree_plan
+
+abbrev tree_close : State → ℕ → State
+tree_close = close_by tree_plan
 
 pub tree_cleared : (limit : ℕ) (st : State) → Cleared limit st → 0 < limit → limit ≤ 2 ^ 62
     → TreeSound st × (tree_order st ≡ emptied limit)
@@ -164,3 +177,6 @@ module _ (st : State) (w : TreeSound st) (t : ℕ) where
       call_kept st (end_book st t) w (λ m. done m t) (end_plain st w.plain t l r o)
       (by_end w.order t (st.task t).inner w.reach h.run own) h.steps_is w.told w.nodes
       (end_told st w.plain t (over_of st) (left_of st) (over_of (end_book st t)) (left_of (end_book st t)) l r o)
+
+pub tree_keeps : Keeps TreeSound tree_plan
+tree_keeps = keeps_by TreeSound tree_plan (λ st w. w.plain) tree_cleared tree_spawned tree_opened tree_closed tree_ended

@@ -1,12 +1,5 @@
-use Rattle.std.proofs.Common.{arith}
-use Rattle.order.specs.States.{state_of}
-use Rattle.order.proofs.Trees.Kept.{tree_cleared}
+use Rattle.order.proofs.Trees.Kept.{tree_keeps}
 use Rattle.order.proofs.tree.TreeKeeper.new.Goals as goal
 
-pub invariant_of-result : goal.invariant_of-result
-invariant_of-result c =
-    let began = tree_cleared _ (state_of c.new.result) c.new.ensures.cleared (omega arith) (omega (arith, c.new.ensures.small, c.new.ensures.cleared.limit_is)) in
-    record { plain = began.0.plain; sound = ∣ began.0 ∣₁ }
-
-pub returns : goal.returns
-returns c = record { emptied = (tree_cleared _ (state_of c.new.result) c.new.ensures.cleared (omega arith) (omega (arith, c.new.ensures.small, c.new.ensures.cleared.limit_is))).1 }
+pub over-requires : goal.over-requires
+over-requires c = ∣ tree_keeps ∣₁
