@@ -11,3 +11,4 @@ pub mod Calls
 pub mod Before
 pub mod Links
 pub mod Earlier
+pub mod Edges
