@@ -5,7 +5,12 @@ use Rattle.order.specs.declared.fault.OrderFault.{OrderFault}
 use Rattle.order.specs.declared.fault.OrderFault.TheVariants.{TaskEnded, NoFinishOpen, FinishNotEmpty, FinishOpen, NoStepFree}
 use Rattle.order.specs.declared.replay.OrderCall.{OrderCall}
 use Rattle.order.specs.declared.replay.OrderCall.TheVariants.{Spawn, Open, Close, End}
-use Rattle.order.specs.Replays.{fault_of, after_calls}
+use Rattle.order.specs.declared.replay.Made.{Made}
+use Rattle.order.specs.declared.replay.Made.TheVariants.{Spawned, Next, Last}
+use Rattle.order.specs.declared.keeper.TaskStage.TheVariants.{Running, Ended}
+use Rattle.order.specs.Faults.{number_of}
+use Rattle.order.specs.Calls.{stage_of}
+use Rattle.order.specs.Replays.{fault_of, answer_of, after_calls}
 
 -- what a keeper that was lent n records says to one more call after others
 abbrev pub refused_with : ℕ → List OrderCall → OrderCall → Option OrderFault
@@ -30,6 +35,7 @@ abbrev pub FirstFaults : Type 0
 FirstFaults =
     -- a task that is not held, with no step free; a task that has ended, with no finish open
     (refused_with 0 [] (Spawn 1) ≡ Some TaskEnded)
+    × (refused_with 0 (End 0 ∷ []) (Open 0) ≡ Some TaskEnded)
     × (refused_with 4 (End 0 ∷ []) (Close 0) ≡ Some TaskEnded)
     -- a task lives in the finish where it lives itself: with none of its own open, its close is refused by 14
     × (refused_with 8 (Spawn 0 ∷ []) (Close 0) ≡ Some NoFinishOpen)
@@ -39,3 +45,28 @@ FirstFaults =
     × (refused_with 16 (Open 0 ∷ Spawn 0 ∷ End 1 ∷ []) (Close 0) ≡ None)
     × (refused_with 4 (Open 0 ∷ []) (End 0) ≡ Some FinishOpen)
     × (refused_with 8 (Open 0 ∷ Close 0 ∷ []) (End 0) ≡ None)
+
+-- what a call answers after others
+abbrev pub answered_after : List OrderCall → OrderCall → Made
+answered_after cs c = answer_of (after_calls (emptied 9) cs) c
+
+-- steps are numbered as they are made, of a spawn the child's first; an end answers the step that the task is on
+-- a task that has ended stays on that step; one that is not held is on step 0
+abbrev pub AnswersShown : Type 0
+AnswersShown =
+    (answered_after [] (Spawn 0) ≡ Spawned 1 2)
+    × (answered_after (Spawn 0 ∷ []) (Open 1) ≡ Next 3)
+    × (answered_after (Spawn 0 ∷ Open 1 ∷ []) (Close 1) ≡ Next 4)
+    × (answered_after (Spawn 0 ∷ Open 1 ∷ Close 1 ∷ []) (End 1) ≡ Last 4)
+    × (answered_after (Spawn 0 ∷ Open 1 ∷ Close 1 ∷ []) (End 0) ≡ Last 2)
+    × (stage_of ((after_calls (emptied 9) (Spawn 0 ∷ [])).task 1) ≡ Running)
+    × (stage_of ((after_calls (emptied 9) (Spawn 0 ∷ End 1 ∷ [])).task 1) ≡ Ended)
+    × (stage_of ((after_calls (emptied 9) []).task 1) ≡ Ended)
+    × (((after_calls (emptied 9) (Spawn 0 ∷ End 1 ∷ [])).task 1).current ≡ 1)
+    × (((after_calls (emptied 9) []).task 1).current ≡ 0)
+
+-- the number of each fault
+abbrev pub NumbersShown : Type 0
+NumbersShown =
+    (number_of TaskEnded ≡ 13) × (number_of NoFinishOpen ≡ 14) × (number_of FinishNotEmpty ≡ 15) × (number_of FinishOpen ≡ 16)
+    × (number_of NoStepFree ≡ 17)

@@ -16,5 +16,5 @@ pub use fault::OrderFault;
 pub use graph::GraphKeeper;
 pub use keeper::{HappensBefore, Keeper, TaskStage};
 pub use record::OrderRecord;
-pub use replay::{Made, OrderCall, Standing, agree_after, stand_after};
+pub use replay::{Made, OrderCall, Standing, both_after, examples_hold, stand_after};
 pub use tree::{Relation, TreeKeeper};

@@ -1,12 +1,12 @@
 // Lists of calls, made on any keeper.
-ghost use Rattle.std.specs.Prelude.{◌≡◌, ℕ, IsTrue};
+ghost use Rattle.std.specs.Prelude.{◌≡◌, ℕ};
 ghost use Rattle.model.specs.Orders.{Order, emptied};
 ghost use Rattle.model.specs.Reached.{Reached};
 ghost use Rattle.order.specs.Calls.{reply};
 ghost use Rattle.order.specs.Replays.{fault_of, answer_of, after_call, after_calls, SaysReached, SaysNo};
 ghost use Rattle.order.specs.Ways.{ways_of};
 ghost use Rattle.order.specs.Edges.{EdgesTell};
-ghost use Rattle.order.specs.Examples.{RoomShown, FirstFaults};
+ghost use Rattle.order.specs.Examples.{RoomShown, FirstFaults, AnswersShown, NumbersShown};
 
 use crate::fault::OrderFault;
 use crate::keeper::Keeper;
@@ -36,8 +36,6 @@ impl OrderCall {
     pub fn make<K: Keeper>(self, keeper: &mut K) -> Result<Made, OrderFault>
         ensures answered { result ≡ reply (fault_of (K.meaning keeper.old) self) (answer_of (K.meaning keeper.old) self) }
         ensures kept { K.meaning keeper.new ≡ after_call (K.meaning keeper.old) self }
-        ensures room { RoomShown }
-        ensures first { FirstFaults }
     {
         Ok(match self {
             OrderCall::Spawn { task } => {
@@ -68,7 +66,8 @@ fn make_all<K: Keeper>(keeper: &mut K, calls: &[OrderCall])
     }
 }
 
-// How the steps a and b stand after the calls: whichever keeper it is, it says what the order says that the calls reach.
+// Starts afresh, makes the calls in turn, and tells how the steps a and b then stand: whichever keeper it is, it says what the order
+// says that the calls reach.
 pub fn stand_after<K: Keeper>(keeper: &mut K, calls: &[OrderCall], a: u64, b: u64) -> Standing
     ensures kept { K.meaning keeper.new ≡ after_calls (emptied (K.meaning keeper.old).limit) calls.now }
     ensures reached { SaysReached (K.meaning keeper.old).limit calls.now a b result }
@@ -82,15 +81,29 @@ pub fn stand_after<K: Keeper>(keeper: &mut K, calls: &[OrderCall], a: u64, b: u6
     }
 }
 
-// Whether two keepers say the same of a and b after the calls: they do, if they may hold as many steps.
-pub fn agree_after<K: Keeper, L: Keeper>(
+// How the steps a and b stand after the calls, as each of two keepers says, which both start afresh: they say the same if they may
+// hold as many steps.
+pub fn both_after<K: Keeper, L: Keeper>(
     one: &mut K,
     other: &mut L,
     calls: &[OrderCall],
     a: u64,
     b: u64,
-) -> bool
-    ensures agreed { (K.meaning one.old).limit ≡ (L.meaning other.old).limit → IsTrue result }
+) -> (Standing, Standing)
+    ensures one { SaysReached (K.meaning one.old).limit calls.now a b result.0 }
+    ensures other { SaysReached (L.meaning other.old).limit calls.now a b result.1 }
+    ensures agreed { (K.meaning one.old).limit ≡ (L.meaning other.old).limit → result.0 ≡ result.1 }
 {
-    stand_after(one, calls, a, b) == stand_after(other, calls, a, b)
+    (
+        stand_after(one, calls, a, b),
+        stand_after(other, calls, a, b),
+    )
 }
+
+// Examples, by computation. It computes nothing: its contract names them.
+pub fn examples_hold()
+    ensures room { RoomShown }
+    ensures first { FirstFaults }
+    ensures answers { AnswersShown }
+    ensures numbers { NumbersShown }
+{}

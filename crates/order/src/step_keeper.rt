@@ -57,26 +57,26 @@ impl<'a, P: Planned> Keeper for StepKeeper<'a, P> {
     }
 
     fn spawn(&mut self, task: u64) -> Result<(u64, u64), OrderFault> {
-        self.book.may_spawn(task)?;
+        self.book.check_spawn(task)?;
         let child = P::child_seat(&self.book, task);
         let next = P::next_seat(&self.book, task);
         Ok(self.book.spawn(task, child, next))
     }
 
     fn open(&mut self, task: u64) -> Result<u64, OrderFault> {
-        self.book.may_open(task)?;
+        self.book.check_open(task)?;
         let next = P::open_seat(&self.book, task);
         Ok(self.book.open(task, next))
     }
 
     fn close(&mut self, task: u64) -> Result<u64, OrderFault> {
-        self.book.may_close(task)?;
+        self.book.check_close(task)?;
         let next = P::close_seat(&self.book, task);
         Ok(self.book.close(task, next))
     }
 
     fn end(&mut self, task: u64) -> Result<u64, OrderFault> {
-        self.book.may_end(task)?;
+        self.book.check_end(task)?;
         Ok(self.book.end(task))
     }
 

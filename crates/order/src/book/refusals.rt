@@ -83,7 +83,9 @@ impl<'a> Book<'a> {
         self.finish(self.task(task).inner).alive > 0
     }
 
-    pub fn may_spawn(&self, task: u64) -> Result<(), OrderFault>
+    // Whether the task may spawn, open, close or end, or why not: the first fault that fits.
+
+    pub fn check_spawn(&self, task: u64) -> Result<(), OrderFault>
         requires { Plain (state_of self.now) }
         ensures answered { result ≡ reply (spawn_fault (tasks_in self.now) task) tt }
     {
@@ -91,7 +93,7 @@ impl<'a> Book<'a> {
         self.check_room(2)
     }
 
-    pub fn may_open(&self, task: u64) -> Result<(), OrderFault>
+    pub fn check_open(&self, task: u64) -> Result<(), OrderFault>
         requires { Plain (state_of self.now) }
         ensures answered { result ≡ reply (open_fault (tasks_in self.now) task) tt }
     {
@@ -99,7 +101,7 @@ impl<'a> Book<'a> {
         self.check_room(1)
     }
 
-    pub fn may_close(&self, task: u64) -> Result<(), OrderFault>
+    pub fn check_close(&self, task: u64) -> Result<(), OrderFault>
         requires { Plain (state_of self.now) }
         ensures answered { result ≡ reply (close_fault (tasks_in self.now) task) tt }
     {
@@ -113,7 +115,7 @@ impl<'a> Book<'a> {
         }
     }
 
-    pub fn may_end(&self, task: u64) -> Result<(), OrderFault>
+    pub fn check_end(&self, task: u64) -> Result<(), OrderFault>
         requires { Plain (state_of self.now) }
         ensures answered { result ≡ reply (end_fault (tasks_in self.now) task) tt }
     {

@@ -9,7 +9,7 @@ use Rattle.order.proofs.step_keeper.StepKeeperKeeper.close.Goals as goal
 owed : (g : Over) (c : After-close g)
     → OwedBy g.P.Planned.Sound g.P.Planned.plan close_fault closed (state_of c.args.self.now.book) c.args.task (state_of c.close.new.self)
 owed g c =
-    closes _ _ c.args.self.now.keeps _ c.args.self.now.sound c.args.task _ _ _ c.may_close.ensures.answered c.in_ok-may_close.was
+    closes _ _ c.args.self.now.keeps _ c.args.self.now.sound c.args.task _ _ _ c.check_close.ensures.answered c.in_ok-check_close.was
     c.close_seat-next.ensures.value c.close.ensures.kept
 
 pub invariant_of-self : goal.invariant_of-self

@@ -10,12 +10,12 @@ use Rattle.order.proofs.step_keeper.StepKeeperKeeper.end.Goals as goal
 pub end-requires-clause-alive : goal.end-requires-clause-alive
 end-requires-clause-alive g c =
     let k = c.args.self.now in
-    ends_alive (state_of k.book) k.plain c.args.task (passed _ c.may_end.result tt _ c.may_end.ensures.answered c.in_ok-may_end.was)
+    ends_alive (state_of k.book) k.plain c.args.task (passed _ c.check_end.result tt _ c.check_end.ensures.answered c.in_ok-check_end.was)
 
 owed : (g : Over) (c : After-end g)
     → OwedBy g.P.Planned.Sound g.P.Planned.plan end_fault done (state_of c.args.self.now.book) c.args.task (state_of c.end.new.self)
 owed g c =
-    ends _ _ c.args.self.now.keeps _ c.args.self.now.sound c.args.task _ _ c.may_end.ensures.answered c.in_ok-may_end.was
+    ends _ _ c.args.self.now.keeps _ c.args.self.now.sound c.args.task _ _ c.check_end.ensures.answered c.in_ok-check_end.was
     c.end.ensures.kept
 
 pub invariant_of-self : goal.invariant_of-self

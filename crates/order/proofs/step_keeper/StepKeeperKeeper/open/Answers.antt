@@ -9,7 +9,7 @@ use Rattle.order.proofs.step_keeper.StepKeeperKeeper.open.Goals as goal
 owed : (g : Over) (c : After-open g)
     → OwedBy g.P.Planned.Sound g.P.Planned.plan open_fault opened (state_of c.args.self.now.book) c.args.task (state_of c.open.new.self)
 owed g c =
-    opens _ _ c.args.self.now.keeps _ c.args.self.now.sound c.args.task _ _ _ c.may_open.ensures.answered c.in_ok-may_open.was
+    opens _ _ c.args.self.now.keeps _ c.args.self.now.sound c.args.task _ _ _ c.check_open.ensures.answered c.in_ok-check_open.was
     c.open_seat-next.ensures.value c.open.ensures.kept
 
 pub invariant_of-self : goal.invariant_of-self

@@ -9,7 +9,7 @@ use Rattle.order.proofs.step_keeper.StepKeeperKeeper.spawn.Goals as goal
 owed : (g : Over) (c : After-spawn g)
     → OwedBy g.P.Planned.Sound g.P.Planned.plan spawn_fault spawned (state_of c.args.self.now.book) c.args.task (state_of c.spawn.new.self)
 owed g c =
-    spawns _ _ c.args.self.now.keeps _ c.args.self.now.sound c.args.task _ _ _ _ c.may_spawn.ensures.answered c.in_ok-may_spawn.was
+    spawns _ _ c.args.self.now.keeps _ c.args.self.now.sound c.args.task _ _ _ _ c.check_spawn.ensures.answered c.in_ok-check_spawn.was
     c.child_seat-child.ensures.value c.next_seat-next.ensures.value c.spawn.ensures.kept
 
 pub invariant_of-self : goal.invariant_of-self
