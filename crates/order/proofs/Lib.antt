@@ -1,4 +1,3 @@
-pub mod Ways
 pub mod Books
 pub mod Keeping
 pub mod Climbs

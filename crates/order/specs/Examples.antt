@@ -1,6 +1,6 @@
 -- How much a keeper may hold, and which of two refusals is given, by computation.
-use Rattle.std.specs.Prelude.{◌≡◌, ℕ, ◌+◌, ◌/◌, List, [], ◌∷◌, ◌++◌, Some, None, Option}
-use Rattle.model.specs.Orders.{Order, emptied}
+use Rattle.std.specs.Prelude.{◌≡◌, ℕ, ◌+◌, ◌/◌, List, [], ◌∷◌, Some, None, Option}
+use Rattle.model.specs.Orders.{emptied}
 use Rattle.order.specs.declared.fault.OrderFault.{OrderFault}
 use Rattle.order.specs.declared.fault.OrderFault.TheVariants.{TaskEnded, NoFinishOpen, FinishNotEmpty, FinishOpen, NoStepFree}
 use Rattle.order.specs.declared.replay.OrderCall.{OrderCall}

@@ -1,6 +1,5 @@
 pub mod Faults
 pub mod Calls
-pub mod Ways
 pub mod Rows
 pub mod States
 pub mod Invariants
@@ -11,4 +10,3 @@ pub mod Graphs
 pub mod Keepers
 pub mod Replays
 pub mod Examples
-pub mod Edges

@@ -1,11 +1,8 @@
 // Lists of calls, made on any keeper.
-ghost use Rattle.std.specs.Prelude.{◌≡◌, ℕ};
-ghost use Rattle.model.specs.Orders.{Order, emptied};
-ghost use Rattle.model.specs.Reached.{Reached};
+ghost use Rattle.std.specs.Prelude.{◌≡◌};
+ghost use Rattle.model.specs.Orders.{emptied};
 ghost use Rattle.order.specs.Calls.{reply};
 ghost use Rattle.order.specs.Replays.{fault_of, answer_of, after_call, after_calls, SaysReached, SaysNo};
-ghost use Rattle.order.specs.Ways.{ways_of};
-ghost use Rattle.order.specs.Edges.{EdgesTell};
 ghost use Rattle.order.specs.Examples.{RoomShown, FirstFaults, AnswersShown, NumbersShown};
 
 use crate::fault::OrderFault;
@@ -72,7 +69,6 @@ pub fn stand_after<K: Keeper>(keeper: &mut K, calls: &[OrderCall], a: u64, b: u6
     ensures kept { K.meaning keeper.new ≡ after_calls (emptied (K.meaning keeper.old).limit) calls.now }
     ensures reached { SaysReached (K.meaning keeper.old).limit calls.now a b result }
     ensures no { SaysNo (K.meaning keeper.old).limit calls.now a b result }
-    ensures edges { (limit : ℕ) (m : Order) (r : Reached limit m) → EdgesTell m (ways_of r) }
 {
     make_all(keeper, calls);
     Standing {

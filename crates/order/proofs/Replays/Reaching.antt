@@ -1,6 +1,6 @@
 -- Any list of calls leads to an order that calls of running tasks reach.
 use Rattle.std.proofs.lemmas.Bool.Decides.{nat_tests}
-use Rattle.std.proofs.Common.{◌≡◌, ◌≤◌, ◌⊎◌, inl, inr, ◌∙◌, ℕ, suc, ◌<◌, Bool, true, false, not, T, List, [], ◌∷◌, Some, None, Option, refl, sym, subst, arith}
+use Rattle.std.proofs.Common.{◌≡◌, ◌≤◌, ◌⊎◌, inl, inr, ℕ, suc, ◌<◌, Bool, true, false, not, T, List, [], ◌∷◌, Some, None, Option, refl, sym, subst, arith}
 use Rattle.model.specs.Lists.{any, below, head_or}
 use Rattle.model.specs.Orders.{Order, has_own, lived}
 use Rattle.model.specs.Reached.{Reached, start, by_spawn, by_open, by_close, by_end}

@@ -1,7 +1,6 @@
-use Rattle.std.proofs.Common.{◌≡◌, ◌∙◌}
+use Rattle.std.proofs.Common.{◌∙◌}
 use Rattle.model.specs.Orders.{emptied}
 use Rattle.model.specs.Reached.{start}
-use Rattle.order.proofs.Ways.Edges.{edges_tell}
 use Rattle.order.proofs.Replays.Reaching.{calls_reached, says_no}
 use Rattle.order.proofs.Replays.Replaying.{standing_by}
 use Rattle.order.proofs.replay.stand_after.Goals as goal
@@ -18,6 +17,3 @@ returns-clause-no g c = λ why.
     let limit = (g.K.HappensBefore.meaning c.args.keeper.now).limit in
     standing_by _ _ c.args.a c.args.b _ _ c.make_all.ensures.kept c.before-2.ensures.told c.earlier.ensures.told
     ∙ says_no limit _ (calls_reached limit (emptied limit) start c.args.calls.now) c.args.a c.args.b why
-
-pub returns-clause-edges : goal.returns-clause-edges
-returns-clause-edges g c = edges_tell

@@ -1,4 +1,3 @@
--- What the graph of a keeper's steps tells of their order.
 pub mod Paths
 pub mod Kept
 pub mod Add
