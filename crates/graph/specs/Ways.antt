@@ -5,8 +5,8 @@ use Rattle.model.specs.Orders.{Order}
 use Rattle.model.specs.Reached.{Reached, start, by_spawn, by_open, by_close, by_end}
 use Rattle.model.specs.Labels.{Label}
 
--- the edges into a step x: from the step that it comes from, which is the one that its task was on, or its spawner;
--- and into a close's step, from the last step of each task that lived in the finish
+-- what the edges are told by: an edge leads to each step from the one that it comes from, which its task was on, or its spawner;
+-- and into a close's step from the last step of each task that lived in the finish (`Edges` has them one by one)
 pub record Ways : Type 0 where
   -- the step that a step comes from
   pub from : ℕ → ℕ
@@ -54,7 +54,7 @@ way_in w (suc k) x = cond (x == 0) [] (way_in w k (w.from x) ++ (x ∷ []))
 abbrev pub way : Ways → ℕ → Label
 way w x = way_in w x x
 
--- from y on from finish to finish around it, by the steps that closed them, as long as these are at most b; at most k times
+-- from y on to the step that closed the finish in which its task lives, and so on, as long as these are at most b; at most k times
 abbrev pub outlet : Ways → ℕ → ℕ → ℕ → ℕ
 outlet w ℕ.zero b y = y
 outlet w (suc k) b y = cond (nat_lt y (w.shut (w.home y)) && nat_le (w.shut (w.home y)) b) (outlet w k b (w.shut (w.home y))) y
@@ -64,7 +64,7 @@ abbrev pub met : Ways → ℕ → ℕ → ℕ → Bool
 met w ℕ.zero y x = x == y
 met w (suc k) y x = cond (nat_lt y x) (met w k y (w.from x)) (x == y)
 
--- whether a search back from b finds a: what comes after a and is at most b leaves the finishes around a by one step, and
--- this one is on the way to b or a is not before b
+-- whether a search finds that a is before b: out of the finishes around a up to b, and then back from b to where that led
+-- each walk takes b steps at most, since numbers only rise on the one and only fall on the other
 abbrev pub searched : Ways → ℕ → ℕ → Bool
 searched w a b = nat_lt a b && met w b (outlet w b b a) b

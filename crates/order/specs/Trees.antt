@@ -22,11 +22,11 @@ step_label st x = label st.link (place x)
 abbrev pub leaf_of : State → ℕ → Link
 leaf_of st t = st.link (place (st.task t).current)
 
--- a new node to the right of the task's step, n turns on, with the new step x in it
+-- a new node to the right of the task's step, n turns on, with the new step in it
 abbrev pub in_node : State → ℕ → ℕ → Seat
 in_node st t n = record { node = record { up = (leaf_of st t).up; turn = (leaf_of st t).turn + n }; leaf = record { up = 2 * st.steps; turn = 0 } }
 
--- a new step to the right of what hangs by a link, two turns on; no node goes by it
+-- a new step to the right of what hangs by a link, two turns on; its place for a node is not used
 abbrev pub right_of : Link → Seat
 right_of l = record { node = no_link; leaf = record { up = l.up; turn = l.turn + 2 } }
 

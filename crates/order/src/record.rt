@@ -1,13 +1,14 @@
-// What a keeper keeps in the memory that it is lent.
+// What a keeper keeps in the memory that it is lent. Each step has two places, 2 x and 2 x + 1 of the step x, and all places hang
+// together in a tree, with place 0 at its root; the keeper says what stands at them.
 
-// Where a place hangs: from which place, and by which turn there. Place 0 hangs from itself.
+// Where a place hangs: from which other place, and by which turn of those that there are at that one. Place 0 hangs from itself.
 #[derive(Clone, Copy, PartialEq, Eq, Debug)]
 pub struct Link {
     pub up: u64,
     pub turn: u64,
 }
 
-// Where the two places of a new step hang.
+// Where the two places of a new step hang: 2 x for a node, if one goes by the step, and 2 x + 1 for the step itself.
 #[derive(Clone, Copy, PartialEq, Eq, Debug)]
 pub struct Seat {
     pub node: Link,
@@ -25,7 +26,7 @@ pub struct TaskRow {
     pub home: u64,
 }
 
-// A finish: the one around it, how many tasks live in it, and the step that closed it, or 0.
+// A finish: the one around it, how many tasks live in it, and the step that closed it, or 0 while it is open (step 0 closes none).
 #[derive(Clone, Copy, PartialEq, Eq, Debug)]
 pub struct FinishRow {
     pub outer: u64,
@@ -42,6 +43,6 @@ pub enum OrderRecord {
 }
 
 impl OrderRecord {
-    // What to make the memory of that a keeper is lent. It may hold anything.
+    // A record to make the memory of, which may hold anything when it is lent.
     pub const BLANK: OrderRecord = OrderRecord::Link(Link { up: 0, turn: 0 });
 }

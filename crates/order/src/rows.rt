@@ -1,4 +1,5 @@
-// Four records to a number: those of 0 stand in the struct, the others in lent memory.
+// The records of a keeper, by their index. Steps, tasks and finishes have numbers, and each number has four records: those of 0
+// stand in the struct, the others in lent memory.
 ghost use Rattle.std.specs.Prelude.{◌≡◌, ◌+◌, ◌*◌, ◌<◌};
 ghost use Rattle.model.specs.Lists.{put};
 ghost use Rattle.order.specs.Rows.{limit_of, row_of};

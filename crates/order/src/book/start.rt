@@ -43,7 +43,7 @@ impl<'a> Book<'a> {
         }
     }
 
-    // The records that were lent stay as they are: none of them is held.
+    // Starts afresh. The records that were lent stay as they are: none of them is held any more.
     pub fn clear(&mut self)
         ensures cleared { Cleared (state_of self.old).limit (state_of self.new) }
     {
