@@ -7,7 +7,7 @@ use Rattle.order.specs.declared.record.Seat.{Seat}
 use Rattle.order.specs.States.{State, place}
 use Rattle.order.specs.Invariants.{Plain}
 use Rattle.order.specs.Plans.{Plan, order_by}
-use Rattle.graph.specs.Ways.{Ways, way, searched, ways_of}
+use Rattle.edges.specs.Ways.{Ways, way, searched, ways_of}
 
 -- A step x stands at the place 2 x + 1, and hangs from the step that it comes from, by the turn x. At the place 2 x stands, as if
 -- it hung there, the finish that the step's task lives in.

@@ -1,8 +1,8 @@
 -- Graphs that agree on the steps that are held are searched alike.
 use Rattle.std.proofs.Common.{◌≡◌, ℕ, zero, suc, ◌<◌, ◌&&◌, ap, refl, ◌∙◌, arith, nat_lt}
 use Rattle.std.proofs.lemmas.Bool.Decides.{nat_tests}
-use Rattle.graph.specs.Ways.{Ways, way_in, outlet, met, searched}
-use Rattle.graph.proofs.Links.{Falls}
+use Rattle.edges.specs.Ways.{Ways, way_in, outlet, met, searched}
+use Rattle.edges.proofs.Links.{Falls}
 
 -- v is w, as far as the steps below n go
 pub record Alike (n : ℕ) (v w : Ways) : Type 0 where

@@ -10,15 +10,15 @@ use Rattle.model.specs.Labels.{left}
 use Rattle.model.proofs.Trees.Reached.{reached_laws}
 use Rattle.order.specs.declared.record.Link.{Link}
 use Rattle.order.specs.States.{State, place, seated}
-use Rattle.graph.specs.Ways.{Ways, ways_of, way, searched}
+use Rattle.edges.specs.Ways.{Ways, ways_of, way, searched}
 use Rattle.order.specs.Graphs.{GraphSound, graph_order, ways_in, comes_from}
 use Rattle.order.specs.Invariants.{Plain}
 use Rattle.order.proofs.Books.Writes.{put_at, put_off}
 use Rattle.order.proofs.Keeping.Agree.{agree}
 use Rattle.order.proofs.Graphs.Alike.{Alike, way_alike, searched_alike}
-use Rattle.graph.proofs.Links.{Falls, from_less}
-use Rattle.graph.proofs.Earlier.{earlier_by_ways}
-use Rattle.graph.proofs.Before.{before_by_ways}
+use Rattle.edges.proofs.Links.{Falls, from_less}
+use Rattle.edges.proofs.Earlier.{earlier_by_ways}
+use Rattle.edges.proofs.Before.{before_by_ways}
 
 -- the places of the steps below n hang as the graph says
 pub record Hung (link : ℕ → Link) (n finishes : ℕ) (from home : ℕ → ℕ) : Type 0 where

@@ -6,7 +6,7 @@ use Rattle.order.specs.declared.record.Link.{Link}
 use Rattle.order.specs.declared.book.climb.Fork.{Fork}
 use Rattle.order.specs.States.{State, place}
 use Rattle.order.specs.Forks.{Below, Forked}
-use Rattle.graph.specs.Ways.{ways_of}
+use Rattle.edges.specs.Ways.{ways_of}
 use Rattle.order.specs.Graphs.{GraphSound, graph_order}
 use Rattle.order.proofs.Graphs.Labels.{label_is_way, left_of_labels}
 use Rattle.order.proofs.Keeping.Agree.{of_held}

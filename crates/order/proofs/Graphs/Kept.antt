@@ -9,7 +9,7 @@ use Rattle.order.specs.declared.record.Link.{Link}
 use Rattle.order.specs.Invariants.{Plain}
 use Rattle.order.specs.declared.record.FinishRow.{FinishRow}
 use Rattle.order.specs.States.{State, Cleared, chain, task_told, seated, end_book}
-use Rattle.graph.specs.Ways.{Ways, unwalked, spawn_ways, next_ways, close_ways, ways_of, way, searched}
+use Rattle.edges.specs.Ways.{Ways, unwalked, spawn_ways, next_ways, close_ways, ways_of, way, searched}
 use Rattle.order.specs.Plans.{Keeps, spawn_by, open_by, close_by}
 use Rattle.order.specs.Graphs.{GraphSound, ways_in, graph_order, comes_from, goes_on, graph_plan}
 use Rattle.order.proofs.Books.Writes.{put_at, put_off}

@@ -4,10 +4,10 @@ use Rattle.model.specs.Labels.{Label, left}
 use Rattle.order.specs.declared.record.Link.{Link}
 use Rattle.order.specs.States.{State, place}
 use Rattle.order.specs.Forks.{label}
-use Rattle.graph.specs.Ways.{way}
+use Rattle.edges.specs.Ways.{way}
 use Rattle.order.specs.Graphs.{GraphSound, ways_in}
 use Rattle.order.proofs.Climbs.Places.{label_up, label_none}
-use Rattle.graph.proofs.Links.{way_last}
+use Rattle.edges.proofs.Links.{way_last}
 use Rattle.order.proofs.Graphs.Searching.{falls_back}
 
 module _ (st : State) (g : GraphSound st) where

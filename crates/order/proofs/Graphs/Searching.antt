@@ -3,8 +3,8 @@ use Rattle.std.proofs.Common.{◌≡◌, ℕ, zero, suc, ◌+◌, ◌-◌, ◌<�
 use Rattle.std.proofs.lemmas.Bool.Decides.{nat_tests}
 use Rattle.order.specs.States.{State}
 use Rattle.order.specs.Graphs.{ways_in, Searchable, GraphSound}
-use Rattle.graph.specs.Ways.{Ways, ways_of, outlet, met}
-use Rattle.graph.proofs.Links.{Falls, from_less}
+use Rattle.edges.specs.Ways.{Ways, ways_of, outlet, met}
+use Rattle.edges.proofs.Links.{Falls, from_less}
 
 -- b - y times are enough, to leave the finishes around y by steps up to b
 pub outlet_fuel : (w : Ways) (b k j y : ℕ) → b ≤ y + k → b ≤ y + j → outlet w k b y ≡ outlet w j b y

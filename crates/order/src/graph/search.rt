@@ -3,7 +3,7 @@ ghost use Rattle.std.specs.Prelude.{◌≡◌, ◌<◌};
 ghost use Rattle.order.specs.States.{state_of};
 ghost use Rattle.order.specs.Invariants.{Plain};
 ghost use Rattle.order.specs.Graphs.{ways_in, Searchable};
-ghost use Rattle.graph.specs.Ways.{outlet, met, searched};
+ghost use Rattle.edges.specs.Ways.{outlet, met, searched};
 
 use crate::book::Book;
 

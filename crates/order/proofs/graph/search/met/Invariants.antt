@@ -1,7 +1,7 @@
 use Rattle.std.proofs.Common.{◌≡◌, ◌<◌}
 use Rattle.order.specs.States.{state_of}
 use Rattle.order.specs.Graphs.{ways_in}
-use Rattle.graph.specs.Ways.{met}
+use Rattle.edges.specs.Ways.{met}
 use Rattle.order.proofs.graph.search.met.Given as goal
 
 -- x is on the way back from b, and the search goes on there

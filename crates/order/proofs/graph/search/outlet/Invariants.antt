@@ -1,7 +1,7 @@
 use Rattle.std.proofs.Common.{◌-◌, ◌≡◌, ◌<◌}
 use Rattle.order.specs.States.{state_of}
 use Rattle.order.specs.Graphs.{ways_in}
-use Rattle.graph.specs.Ways.{outlet}
+use Rattle.edges.specs.Ways.{outlet}
 use Rattle.order.proofs.graph.search.outlet.Given as goal
 
 -- the search from a on goes by y, and the finish around y was closed by `next`

@@ -9,8 +9,8 @@ use Rattle.model.specs.Labels.{Label, left, Under}
 use Rattle.model.proofs.Trees.Labels.{left_none, left_same, under_cut}
 use Rattle.model.proofs.Trees.Reached.{reached_laws}
 use Rattle.model.proofs.Linking.Earlier.{with_old, with_new}
-use Rattle.graph.specs.Ways.{Ways, unwalked, spawn_ways, next_ways, close_ways, ways_of, way}
-use Rattle.graph.proofs.Links.{Grown, spawn_grown, next_grown, close_grown, from_less, way_step, way_old, way_fresh, from_before}
+use Rattle.edges.specs.Ways.{Ways, unwalked, spawn_ways, next_ways, close_ways, ways_of, way}
+use Rattle.edges.proofs.Links.{Grown, spawn_grown, next_grown, close_grown, from_less, way_step, way_old, way_fresh, from_before}
 
 -- what does not lie under s sees s and all that lies under s alike
 past_left : (a s z : Label) → (Under s a → ⊥) → left a (s ++ z) ≡ left a s

@@ -3,9 +3,9 @@ use Rattle.std.proofs.Common.{◌≡◌, ℕ, T, sym, refl, subst, inl, inr, ari
 use Rattle.std.proofs.lemmas.Bool.{cases_eq}
 use Rattle.model.proofs.Shelf.Tests.{cond_eq, cond_ne}
 use Rattle.model.specs.Orders.{Order, Task, no_task, emptied}
-use Rattle.graph.specs.Ways.{unwalked}
-use Rattle.graph.proofs.Paths.{Back, here}
-use Rattle.graph.proofs.Kept.{Own, Owns, Walker, Kept, alone_in, alone_above}
+use Rattle.edges.specs.Ways.{unwalked}
+use Rattle.edges.proofs.Paths.{Back, here}
+use Rattle.edges.proofs.Kept.{Own, Owns, Walker, Kept, alone_in, alone_above}
 
 module _ (limit : ℕ) where
   abbrev m : Order

@@ -6,8 +6,8 @@ use Rattle.model.proofs.Shelf.Tests.{or_l, or_r}
 use Rattle.model.specs.Lists.{last_in}
 use Rattle.model.specs.Orders.{Order, Task, at_or_after}
 use Rattle.model.specs.Shapes.{In, Above}
-use Rattle.graph.specs.Ways.{Ways}
-use Rattle.graph.proofs.Paths.{Back, here, on, stay, Falls, Finds}
+use Rattle.edges.specs.Ways.{Ways}
+use Rattle.edges.proofs.Paths.{Back, here, on, stay, Falls, Finds}
 
 -- f is one of a task's own finishes, which are all but the last
 abbrev pub Own : ℕ → List ℕ → Type 0

@@ -4,10 +4,10 @@ use Rattle.model.proofs.Trees.Tasks.{retask_case}
 use Rattle.std.proofs.Common.{◌≡◌, ℕ, ◌<◌, false, T, ◌⊎◌, [], ◌∷◌, Some, sym, refl, ap, ◌∙◌, subst, arith}
 use Rattle.model.specs.Lists.{last_in, head_or}
 use Rattle.model.specs.Orders.{Order, Task, done}
-use Rattle.graph.specs.Ways.{Ways}
-use Rattle.graph.proofs.Paths.{Back}
-use Rattle.graph.proofs.Kept.{Owns, Stands, Walker, Kept}
-use Rattle.graph.proofs.Refit.{walker_keep, grown_keep, told_keep}
+use Rattle.edges.specs.Ways.{Ways}
+use Rattle.edges.proofs.Paths.{Back}
+use Rattle.edges.proofs.Kept.{Owns, Stands, Walker, Kept}
+use Rattle.edges.proofs.Refit.{walker_keep, grown_keep, told_keep}
 
 module _ {m : Order} {w : Ways} {t f : ℕ} (k : Kept m w) (run : T (m.task t).running) (fin : (m.task t).finishes ≡ f ∷ []) where
   -- the order after the end

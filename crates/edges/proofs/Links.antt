@@ -6,7 +6,7 @@ use Rattle.model.specs.Orders.{Order}
 use Rattle.model.specs.Reached.{Reached, start, by_spawn, by_open, by_close, by_end}
 use Rattle.model.proofs.Trees.Reached.{reached_laws}
 use Rattle.model.proofs.Shelf.Tests.{cond_ne}
-use Rattle.graph.specs.Ways.{Ways, spawn_ways, next_ways, close_ways, ways_of, way_in, way}
+use Rattle.edges.specs.Ways.{Ways, spawn_ways, next_ways, close_ways, ways_of, way_in, way}
 
 -- below n, each step but 0 comes from a lower one
 abbrev pub Falls : Ways → ℕ → Type 0

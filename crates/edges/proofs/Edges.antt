@@ -10,12 +10,12 @@ use Rattle.model.specs.Shapes.{In}
 use Rattle.model.proofs.Shelf.Lists.{any_below_of, any_below_in}
 use Rattle.model.proofs.Shelf.Tests.{or_l}
 use Rattle.model.proofs.Trees.Reached.{reached_laws}
-use Rattle.graph.specs.Ways.{Ways, spawn_ways, next_ways, close_ways, ways_of}
-use Rattle.graph.specs.Edges.{Edge, came, awaited, Leads, by_one, by_more, EdgesTell}
-use Rattle.graph.proofs.Kept.{Kept, after_case}
-use Rattle.graph.proofs.Add.{put_at, put_off}
-use Rattle.graph.proofs.Before.{reached_kept}
-use Rattle.graph.proofs.Links.{Grown, spawn_grown, next_grown, close_grown, from_before}
+use Rattle.edges.specs.Ways.{Ways, spawn_ways, next_ways, close_ways, ways_of}
+use Rattle.edges.specs.Edges.{Edge, came, awaited, Leads, by_one, by_more, EdgesTell}
+use Rattle.edges.proofs.Kept.{Kept, after_case}
+use Rattle.edges.proofs.Add.{put_at, put_off}
+use Rattle.edges.proofs.Before.{reached_kept}
+use Rattle.edges.proofs.Links.{Grown, spawn_grown, next_grown, close_grown, from_before}
 
 -- the innermost finish of a running task is open
 innermost_open : (m : Order) (w : Ways) → Kept m w → (t f : ℕ) (fs : List ℕ) → T (m.task t).running → (m.task t).finishes ≡ f ∷ fs

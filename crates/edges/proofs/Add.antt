@@ -6,9 +6,9 @@ use Rattle.model.proofs.Shelf.Tests.{cond_eq, cond_ne}
 use Rattle.model.specs.Lists.{last_in, put}
 use Rattle.model.specs.Orders.{Order, Task, at_or_after}
 use Rattle.model.specs.Shapes.{In, Above}
-use Rattle.graph.specs.Ways.{Ways}
-use Rattle.graph.proofs.Paths.{Back, here, Out, Finds, Falls, back_le, back_more, back_case, back_same, out_same, out_held, finds_le}
-use Rattle.graph.proofs.Kept.{Own, Owns, Stands, Grown, Walker, Kept, seat, own_up, alone_in, alone_above, after_finds, finds_after, after_held}
+use Rattle.edges.specs.Ways.{Ways}
+use Rattle.edges.proofs.Paths.{Back, here, Out, Finds, Falls, back_le, back_more, back_case, back_same, out_same, out_held, finds_le}
+use Rattle.edges.proofs.Kept.{Own, Owns, Stands, Grown, Walker, Kept, seat, own_up, alone_in, alone_above, after_finds, finds_after, after_held}
 
 pub put_at : {A : Type 0} (f : ℕ → A) (k : ℕ) (v : A) → put f k v k ≡ v
 put_at f k v = grind arith

@@ -4,12 +4,12 @@ use Rattle.model.specs.Orders.{Order}
 use Rattle.model.specs.Reached.{Reached, start, by_spawn, by_open, by_close, by_end}
 use Rattle.model.proofs.Shelf.Tests.{T-ext}
 use Rattle.model.proofs.Trees.Reached.{reached_laws}
-use Rattle.graph.specs.Ways.{ways_of, searched}
-use Rattle.graph.proofs.Paths.{searched_finds, searched_below, finds_searched}
-use Rattle.graph.proofs.Kept.{Kept}
-use Rattle.graph.proofs.Start.{start_kept}
-use Rattle.graph.proofs.Calls.{spawn_keeps, open_keeps, close_keeps}
-use Rattle.graph.proofs.End.{end_kept}
+use Rattle.edges.specs.Ways.{ways_of, searched}
+use Rattle.edges.proofs.Paths.{searched_finds, searched_below, finds_searched}
+use Rattle.edges.proofs.Kept.{Kept}
+use Rattle.edges.proofs.Start.{start_kept}
+use Rattle.edges.proofs.Calls.{spawn_keeps, open_keeps, close_keeps}
+use Rattle.edges.proofs.End.{end_kept}
 
 -- what holds from call to call holds of each reached order
 pub reached_kept : (limit : ℕ) (m : Order) (r : Reached limit m) → Kept m (ways_of r)

@@ -3,9 +3,9 @@ use Rattle.std.proofs.Common.{◌≡◌, ℕ, ◌+◌, ◌<◌, T, ◌⊎◌, Li
 use Rattle.model.specs.Lists.{last_in}
 use Rattle.model.specs.Orders.{Order}
 use Rattle.model.specs.Shapes.{In, Above}
-use Rattle.graph.specs.Ways.{Ways}
-use Rattle.graph.proofs.Kept.{Own, Owns, Stands, Walker, Kept, own_held}
-use Rattle.graph.proofs.Refit.{walker_keep, grown_keep, told_keep, Refits, own, task_case, owns_of, owns_old, refit_kept}
+use Rattle.edges.specs.Ways.{Ways}
+use Rattle.edges.proofs.Kept.{Own, Owns, Stands, Walker, Kept, own_held}
+use Rattle.edges.proofs.Refit.{walker_keep, grown_keep, told_keep, Refits, own, task_case, owns_of, owns_old, refit_kept}
 
 last_more : (g h : ℕ) (fs : List ℕ) → last_in fs ≡ Some h → last_in (g ∷ fs) ≡ Some h
 last_more g h [] e = cc

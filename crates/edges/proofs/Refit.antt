@@ -3,9 +3,9 @@ use Rattle.std.proofs.Common.{◌≡◌, ℕ, ◌≤◌, T, ◌⊎◌, List, sym
 use Rattle.std.proofs.lemmas.Bool.{cases_eq}
 use Rattle.model.specs.Orders.{Order, Task}
 use Rattle.model.specs.Shapes.{In}
-use Rattle.graph.specs.Ways.{Ways}
-use Rattle.graph.proofs.Paths.{Back}
-use Rattle.graph.proofs.Kept.{Own, Owns, Stands, Grown, Walker, Told, Kept}
+use Rattle.edges.specs.Ways.{Ways}
+use Rattle.edges.proofs.Paths.{Back}
+use Rattle.edges.proofs.Kept.{Own, Owns, Stands, Grown, Walker, Told, Kept}
 
 -- the graph, with other finishes closed
 abbrev pub reshut : Ways → (ℕ → ℕ) → Ways

@@ -9,13 +9,13 @@ use Rattle.model.specs.Shapes.{In}
 use Rattle.model.proofs.Shelf.Tests.{is_true, or_l, or_r, cond_eq, cond_ne}
 use Rattle.model.proofs.Shelf.Lists.{any_below_of, any_below_in}
 use Rattle.model.proofs.Trees.Tasks.{retask_at, retask_off}
-use Rattle.graph.specs.Ways.{Ways, spawn_ways, next_ways, close_ways}
-use Rattle.graph.proofs.Paths.{shut_by}
-use Rattle.graph.proofs.Kept.{Walker, Kept, last_is_in}
-use Rattle.graph.proofs.Add.{grow, Adds, add_kept, put_off}
-use Rattle.graph.proofs.Refit.{Refits}
-use Rattle.graph.proofs.Open.{open_kept}
-use Rattle.graph.proofs.Shut.{Shuts, shut_kept}
+use Rattle.edges.specs.Ways.{Ways, spawn_ways, next_ways, close_ways}
+use Rattle.edges.proofs.Paths.{shut_by}
+use Rattle.edges.proofs.Kept.{Walker, Kept, last_is_in}
+use Rattle.edges.proofs.Add.{grow, Adds, add_kept, put_off}
+use Rattle.edges.proofs.Refit.{Refits}
+use Rattle.edges.proofs.Open.{open_kept}
+use Rattle.edges.proofs.Shut.{Shuts, shut_kept}
 
 -- the innermost finish is one of a task's finishes
 head_in : (h : ℕ) (fs : List ℕ) → last_in fs ≡ Some h → In (head_or fs 0) fs

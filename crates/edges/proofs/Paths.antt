@@ -3,7 +3,7 @@ use Rattle.std.proofs.lemmas.Bool.Decides.{nat_tests}
 use Rattle.std.proofs.Common.{◌≡◌, ℕ, zero, suc, ◌+◌, ◌<◌, ◌≤◌, T, ◌⊎◌, sym, refl, subst, inl, inr, arith}
 use Rattle.std.proofs.lemmas.Bool.{cases_eq}
 use Rattle.model.specs.Lists.{put}
-use Rattle.graph.specs.Ways.{Ways, outlet, met, searched}
+use Rattle.edges.specs.Ways.{Ways, outlet, met, searched}
 
 -- y is x, or stands on the way back from x
 pub data Back (from : ℕ → ℕ) (y : ℕ) : ℕ → Type 0 where

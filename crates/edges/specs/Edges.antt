@@ -1,7 +1,7 @@
 -- The edges of the graph of steps, and what is before what by them.
 use Rattle.std.specs.Prelude.{ℕ, ◌<◌, T, ◌↔◌}
 use Rattle.model.specs.Orders.{Order}
-use Rattle.graph.specs.Ways.{Ways}
+use Rattle.edges.specs.Ways.{Ways}
 
 -- an edge leads from one step to another: to each step but the first from the one that it comes from, and to the step that closed a
 -- finish from the last step of each task that ended in it

@@ -4,11 +4,11 @@ use Rattle.std.proofs.Common.{◌≡◌, ℕ, zero, suc, ◌+◌, ◌<◌, ◌�
 use Rattle.model.specs.Lists.{last_in, put}
 use Rattle.model.specs.Orders.{Order, Task, at_or_after}
 use Rattle.model.specs.Shapes.{In, Above}
-use Rattle.graph.specs.Ways.{Ways}
-use Rattle.graph.proofs.Paths.{Back, here, Out, Finds, shut_by, back_le, out_held, out_on, out_kept, out_of}
-use Rattle.graph.proofs.Kept.{Own, Owns, Stands, Grown, Walker, Kept, own_up, seat, back_home, after_finds, finds_after, after_held}
-use Rattle.graph.proofs.Add.{put_at, put_off}
-use Rattle.graph.proofs.Refit.{walker_keep, Refits, own, task_case, owns_of, owns_old, refit_kept}
+use Rattle.edges.specs.Ways.{Ways}
+use Rattle.edges.proofs.Paths.{Back, here, Out, Finds, shut_by, back_le, out_held, out_on, out_kept, out_of}
+use Rattle.edges.proofs.Kept.{Own, Owns, Stands, Grown, Walker, Kept, own_up, seat, back_home, after_finds, finds_after, after_held}
+use Rattle.edges.proofs.Add.{put_at, put_off}
+use Rattle.edges.proofs.Refit.{walker_keep, Refits, own, task_case, owns_of, owns_old, refit_kept}
 
 -- the order n is m after the task t, on its step c, has closed f: the ends of the tasks of f are now before c
 pub record Shuts (m n : Order) (t c f g : ℕ) (fs : List ℕ) : Type 0 where
