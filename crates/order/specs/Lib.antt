@@ -10,5 +10,6 @@ pub mod Trees
 pub mod Graphs
 pub mod Keepers
 pub mod Replays
+pub mod Grown
 pub mod Examples
 pub mod Edges
