@@ -4,3 +4,4 @@ pub mod Told
 pub mod Here
 pub mod Kept
 pub mod Relation
+pub mod Growing

@@ -49,8 +49,8 @@ abbrev pub reply : {A : Type 0} → Option OrderFault → A → Result A OrderFa
 reply None a = Ok a
 reply (Some f) a = Err f
 
--- what is meant after a call: the same as before it, if it is refused
-abbrev pub moved : Option OrderFault → Order → Order → Order
+-- what a call leaves that makes n of m: the same as before it, if it is refused
+abbrev pub moved : {A : Type 0} → Option OrderFault → A → A → A
 moved None m n = n
 moved (Some f) m n = m
 

@@ -1,4 +1,4 @@
--- How much a keeper may hold, and which of two refusals is given, by computation.
+-- How much a keeper may hold, which of two refusals is given, what calls answer, and how many links are climbed, by computation.
 use Rattle.std.specs.Prelude.{◌≡◌, ℕ, ◌+◌, ◌/◌, List, [], ◌∷◌, Some, None, Option}
 use Rattle.model.specs.Orders.{emptied}
 use Rattle.order.specs.declared.fault.OrderFault.{OrderFault}
@@ -11,6 +11,8 @@ use Rattle.order.specs.declared.keeper.TaskStage.TheVariants.{Running, Ended}
 use Rattle.order.specs.Faults.{number_of}
 use Rattle.order.specs.Calls.{stage_of}
 use Rattle.order.specs.Replays.{fault_of, answer_of, after_calls}
+use Rattle.order.specs.Keepers.{relation_in}
+use Rattle.order.specs.Grown.{tree_after}
 
 -- what a keeper that was lent n records says to one more call after others
 abbrev pub refused_with : ℕ → List OrderCall → OrderCall → Option OrderFault
@@ -70,3 +72,29 @@ abbrev pub NumbersShown : Type 0
 NumbersShown =
     (number_of TaskEnded ≡ 13) × (number_of NoFinishOpen ≡ 14) × (number_of FinishNotEmpty ≡ 15) × (number_of FinishOpen ≡ 16)
     × (number_of NoStepFree ≡ 17)
+
+-- how many links are climbed from two steps of a keeper that may hold ten, after calls
+abbrev pub links_after : List OrderCall → ℕ → ℕ → ℕ
+links_after cs a b = (relation_in (after_calls (emptied 10) cs) (tree_after 10 cs).step a b).links
+
+-- a spawn, and another in a finish
+abbrev pub two_spawns : List OrderCall
+two_spawns = Spawn 0 ∷ Open 0 ∷ Spawn 0 ∷ []
+
+-- the labels of steps 1, 2 and 4 are 1.0, 2 and 4.1.0; step 6 is not held
+abbrev pub LinksShown : Type 0
+LinksShown = (links_after two_spawns 1 4 ≡ 5) × (links_after two_spawns 1 2 ≡ 3) × (links_after two_spawns 4 6 ≡ 0)
+
+-- two finishes, one in the other, and one after the other
+abbrev pub nested : List OrderCall
+nested = Open 0 ∷ Open 0 ∷ Close 0 ∷ Close 0 ∷ []
+
+abbrev pub in_turn : List OrderCall
+in_turn = Open 0 ∷ Close 0 ∷ Open 0 ∷ Close 0 ∷ []
+
+-- both lead to one order, but their trees differ
+abbrev pub TreesDiffer : Type 0
+TreesDiffer =
+    (after_calls (emptied 10) nested ≡ after_calls (emptied 10) in_turn)
+    × (links_after nested 0 2 ≡ 4)
+    × (links_after in_turn 0 2 ≡ 2)

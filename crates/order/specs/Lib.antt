@@ -8,8 +8,10 @@ pub mod Rows
 pub mod States
 pub mod Invariants
 pub mod Plans
--- The ways up from two places; the plans of the tree and of the graph; what a keeper means and how two steps stand in the tree.
+-- The ways up from two places; the plans of the tree and of the graph; what a keeper means, how two steps stand in the tree, and the
+-- tree that lists of calls grow.
 pub mod Forks
 pub mod Trees
 pub mod Graphs
 pub mod Keepers
+pub mod Grown

@@ -5,6 +5,7 @@ ghost use Rattle.order.specs.States.{state_of, Room};
 
 mod calls;
 mod climb;
+mod planned;
 mod refusals;
 mod start;
 

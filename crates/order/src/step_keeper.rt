@@ -57,27 +57,19 @@ impl<'a, P: Planned> Keeper for StepKeeper<'a, P> {
     }
 
     fn spawn(&mut self, task: u64) -> Result<(u64, u64), OrderFault> {
-        self.book.check_spawn(task)?;
-        let child = P::child_seat(&self.book, task);
-        let next = P::next_seat(&self.book, task);
-        Ok(self.book.spawn(task, child, next))
+        self.book.try_spawn::<P>(task)
     }
 
     fn open(&mut self, task: u64) -> Result<u64, OrderFault> {
-        self.book.check_open(task)?;
-        let next = P::open_seat(&self.book, task);
-        Ok(self.book.open(task, next))
+        self.book.try_open::<P>(task)
     }
 
     fn close(&mut self, task: u64) -> Result<u64, OrderFault> {
-        self.book.check_close(task)?;
-        let next = P::close_seat(&self.book, task);
-        Ok(self.book.close(task, next))
+        self.book.try_close::<P>(task)
     }
 
     fn end(&mut self, task: u64) -> Result<u64, OrderFault> {
-        self.book.check_end(task)?;
-        Ok(self.book.end(task))
+        self.book.try_end(task)
     }
 
     fn stage(&self, task: u64) -> TaskStage {

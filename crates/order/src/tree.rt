@@ -6,12 +6,14 @@ ghost use Rattle.order.specs.Invariants.{Plain};
 ghost use Rattle.order.specs.Trees.{TreeSound, tree_plan, tree_order, step_label};
 ghost use Rattle.order.specs.Keepers.{relation_in};
 
+mod growth;
 mod seats;
 
 use crate::book::Book;
 use crate::keeper::HappensBefore;
 use crate::plan::Planned;
 use crate::record::{OrderRecord, Seat};
+use crate::replay::OrderCall;
 use crate::step_keeper::StepKeeper;
 
 // How two steps stand, and how many links are climbed from both to their lowest common ancestor.
@@ -83,6 +85,9 @@ impl<'a> TreeKeeper<'a> {
     ghost use Rattle.model.specs.Orders.{emptied};
     ghost use Rattle.model.specs.Trees.{Labelled};
     ghost use Rattle.order.specs.Keepers.{labels_of, TreeGrown};
+    ghost use Rattle.order.specs.Replays.{after_calls};
+    ghost use Rattle.order.specs.Grown.{tree_after};
+    ghost use Rattle.order.specs.Examples.{LinksShown, TreesDiffer};
 
     // A keeper of 1 step, and one more for every four records.
     pub fn new(records: &'a mut [OrderRecord]) -> TreeKeeper<'a>
@@ -98,5 +103,19 @@ impl<'a> TreeKeeper<'a> {
         ensures grown { TreeGrown self.now }
     {
         relate(&self.book, a, b)
+    }
+
+    // Starts afresh, makes the calls in turn, whatever is refused, and tells how the steps a and b then stand in the tree that these
+    // calls grow.
+    pub fn relation_after(&mut self, calls: &[OrderCall], a: u64, b: u64) -> Relation
+        ensures told { let limit = (⟦<TreeKeeper<'a> as HappensBefore>⟧.meaning self.old).limit in
+            result ≡ relation_in (after_calls (emptied limit) calls.now) (tree_after limit calls.now).step a b }
+        ensures kept { let m = ⟦<TreeKeeper<'a> as HappensBefore>⟧.meaning self.old in
+            ⟦<TreeKeeper<'a> as HappensBefore>⟧.meaning self.new ≡ after_calls (emptied m.limit) calls.now }
+        ensures links { LinksShown }
+        ensures differ { TreesDiffer }
+    {
+        growth::regrow(&mut self.book, calls);
+        self.relation(a, b)
     }
 }

@@ -1,12 +1,11 @@
 -- The calls of a keeper that goes by a plan: what its book is after each, and the order that it stands for.
 use Rattle.std.proofs.Props.{props}
 use Rattle.std.proofs.Math.Logic.{∥∥₁_elim, ∥∥₁_map}
-use Rattle.std.proofs.Common.{◌≡◌, ℕ, ◌<◌, ◌≤◌, ◌^◌, Some, None, Ok, Option, Result, refl, sym, subst, ap, ◌∙◌}
+use Rattle.std.proofs.Common.{◌≡◌, ℕ, ◌<◌, ◌≤◌, ◌^◌, Some, None, Ok, Option, Result, refl, sym, subst}
 use Rattle.model.specs.Orders.{Order, emptied, spawned, opened, closed, done}
 use Rattle.order.specs.declared.fault.OrderFault.{OrderFault}
-use Rattle.order.specs.declared.record.Seat.{Seat}
 use Rattle.order.specs.Calls.{reply, moved, spawn_fault, open_fault, close_fault, end_fault}
-use Rattle.order.specs.States.{State, Cleared, spawn_book, open_book, close_book, end_book}
+use Rattle.order.specs.States.{State, Cleared, end_book}
 use Rattle.order.specs.Invariants.{Plain, plain_prop}
 use Rattle.order.specs.Plans.{Plan, Keeps, StandsFor, order_by, spawn_by, open_by, close_by}
 
@@ -42,30 +41,29 @@ module _ (Sound : State → Type 0) (p : Plan) (keeps : ∥ Keeps Sound p ∥₁
   pub clears : (limit : ℕ) (st : State) → Cleared limit st → 0 < limit → limit ≤ 2 ^ 62 → Owed Sound p st (emptied limit)
   clears limit st c a b = owed st (emptied limit) (λ k. ∣ k.clears limit st c a b ∣₁)
 
-  module _ (st : State) (w : ∥ Sound st ∥₁) (t : ℕ) (r : Result Unit OrderFault) where
-    -- a call that is not refused makes the book s, if the plan keeps it sound
-    moves : (o : Order → ℕ → Option OrderFault) (n : Order → ℕ → Order) (s st₂ : State) → r ≡ reply (o (order_by p st) t) tt → r ≡ Ok tt → st₂ ≡ s
+  -- a call that is refused leaves the book, which stands for its order still
+  either : (o : Option OrderFault) (st s : State) (n : Order) → Sound st → (o ≡ None → StandsFor Sound p s n)
+      → StandsFor Sound p (moved o st s) (moved o (order_by p st) n)
+  either None st s n v f = f refl
+  either (Some x) st s n v f = (v, refl)
+
+  module _ (st : State) (w : ∥ Sound st ∥₁) (t : ℕ) (st₂ : State) where
+    -- a call makes the book s, if it is not refused and the plan keeps that sound
+    moves : (o : Order → ℕ → Option OrderFault) (n : Order → ℕ → Order) (s : State) → st₂ ≡ moved (o (order_by p st) t) st s
         → (Keeps Sound p → Sound st → o (order_by p st) t ≡ None → StandsFor Sound p s (n (order_by p st) t)) → OwedBy Sound p o n st t st₂
-    moves o n s st₂ e g h f =
+    moves o n s e f =
         let m = order_by p st in
-        let free = passed (o m t) r tt tt e g in
-        let goes : n m t ≡ moved (o m t) m (n m t) = ap (λ q. moved q m (n m t)) (sym free) in
-        owed st₂ (moved (o m t) m (n m t)) (λ k. ∥∥₁_map w (λ v. subst (StandsFor Sound p st₂) goes (subst (λ q. StandsFor Sound p q (n m t)) (sym h) (f k v free))))
+        let q = moved (o m t) m (n m t) in
+        owed st₂ q (λ k. ∥∥₁_map w (λ v. subst (λ z. StandsFor Sound p z q) (sym e) (either (o m t) st s (n m t) v (f k v))))
 
-    pub spawns : (child next : Seat) (st₂ : State) → r ≡ reply (spawn_fault (order_by p st) t) tt → r ≡ Ok tt → child ≡ p.child_seat st t
-        → next ≡ p.next_seat st t → st₂ ≡ spawn_book st t child next → OwedBy Sound p spawn_fault spawned st t st₂
-    spawns child next st₂ e g c d h =
-        moves spawn_fault spawned (spawn_by p st t) st₂ e g
-        (h ∙ (ap (λ z. spawn_book st t z next) c ∙ ap (spawn_book st t (p.child_seat st t)) d)) (λ k v. k.spawns st v t)
+    pub spawns : st₂ ≡ moved (spawn_fault (order_by p st) t) st (spawn_by p st t) → OwedBy Sound p spawn_fault spawned st t st₂
+    spawns e = moves spawn_fault spawned (spawn_by p st t) e (λ k v. k.spawns st v t)
 
-    pub opens : (next : Seat) (st₂ : State) → r ≡ reply (open_fault (order_by p st) t) tt → r ≡ Ok tt → next ≡ p.open_seat st t
-        → st₂ ≡ open_book st t next → OwedBy Sound p open_fault opened st t st₂
-    opens next st₂ e g d h = moves open_fault opened (open_by p st t) st₂ e g (h ∙ ap (open_book st t) d) (λ k v. k.opens st v t)
+    pub opens : st₂ ≡ moved (open_fault (order_by p st) t) st (open_by p st t) → OwedBy Sound p open_fault opened st t st₂
+    opens e = moves open_fault opened (open_by p st t) e (λ k v. k.opens st v t)
 
-    pub closes : (next : Seat) (st₂ : State) → r ≡ reply (close_fault (order_by p st) t) tt → r ≡ Ok tt → next ≡ p.close_seat st t
-        → st₂ ≡ close_book st t next → OwedBy Sound p close_fault closed st t st₂
-    closes next st₂ e g d h = moves close_fault closed (close_by p st t) st₂ e g (h ∙ ap (close_book st t) d) (λ k v. k.closes st v t)
+    pub closes : st₂ ≡ moved (close_fault (order_by p st) t) st (close_by p st t) → OwedBy Sound p close_fault closed st t st₂
+    closes e = moves close_fault closed (close_by p st t) e (λ k v. k.closes st v t)
 
-    pub ends : (st₂ : State) → r ≡ reply (end_fault (order_by p st) t) tt → r ≡ Ok tt → st₂ ≡ end_book st t
-        → OwedBy Sound p end_fault done st t st₂
-    ends st₂ e g h = moves end_fault done (end_book st t) st₂ e g h (λ k v. k.ends st v t)
+    pub ends : st₂ ≡ moved (end_fault (order_by p st) t) st (end_book st t) → OwedBy Sound p end_fault done st t st₂
+    ends e = moves end_fault done (end_book st t) e (λ k v. k.ends st v t)

@@ -1,22 +1,23 @@
--- Each call of a sound tree keeps it sound, and makes of its order what the call makes of an order.
+-- Each call of a sound tree keeps it sound, and makes of its order and of its tree what the call makes of these.
 use Rattle.std.proofs.Common.{◌≡◌, ℕ, ◌+◌, ◌*◌, ◌<◌, ◌≤◌, ◌^◌, true, cond, T, List, [], ◌∷◌, ◌++◌, sym, refl, ap, ap₂, ◌∙◌, subst, nat_lt, arith}
 use Rattle.model.specs.Lists.{head_or, put}
 use Rattle.model.specs.Orders.{Order, Task, emptied, spawned, opened, closed, done}
 use Rattle.model.specs.Labels.{Label, child_of, next_of, inner_of}
 use Rattle.model.specs.Reached.{start, by_spawn, by_open, by_close, by_end}
-use Rattle.model.specs.Trees.{Tree, tree_of}
+use Rattle.model.specs.Trees.{Tree, planted, spawn_tree, open_tree, close_tree, tree_of}
 use Rattle.order.specs.declared.record.Link.{Link}
 use Rattle.order.specs.Rows.{no_link}
 use Rattle.order.specs.States.{State, Cleared, seated, chain, end_book}
 use Rattle.order.specs.Plans.{Keeps, spawn_by, open_by, close_by}
 use Rattle.order.specs.Forks.{label}
 use Rattle.order.specs.Trees.{TreeSound, Node, step_label, tree_order, leaf_of, in_node, right_of, tree_plan}
+use Rattle.order.specs.Grown.{Grew}
 use Rattle.order.proofs.Books.Telling.{Ready, Fits, cleared_plain, spawn_told, open_told, close_told, end_told, spawn_plain, open_plain, close_plain, end_plain, none_lives, finishes_told}
 use Rattle.order.proofs.Keeping.Ready.{keeps_by}
 use Rattle.order.proofs.Books.Starting.{cleared_told}
 use Rattle.order.proofs.Climbs.Places.{label_up}
 use Rattle.order.proofs.Trees.Seats.{Seating, label_old, node_old, labels_more, nodes_more, label_beside, label_within, node_within}
-use Rattle.order.proofs.Trees.Told.{over_of, left_of, before_told, earlier_told, call_kept}
+use Rattle.order.proofs.Trees.Told.{over_of, left_of, before_told, earlier_told, call_kept, call_stands}
 use Rattle.order.proofs.Trees.Here.{Here, here, child_at, next_at, inner_at, next_turn, up_old, in_fits, right_fits, in_finish}
 
 -- what calls make of a book by the plan
@@ -30,12 +31,12 @@ tree_open = open_by tree_plan
 abbrev tree_close : State → ℕ → State
 tree_close = close_by tree_plan
 
-pub tree_cleared : (limit : ℕ) (st : State) → Cleared limit st → 0 < limit → limit ≤ 2 ^ 62
-    → TreeSound st × (tree_order st ≡ emptied limit)
-tree_cleared limit st c a b = (
-  record { plain = cleared_plain limit st c a b; order = emptied st.limit; reach = start; means = means; told = told; nodes = nodes },
-  means ∙ ap emptied c.limit_is,
-)
+pub tree_cleared : (limit : ℕ) (st : State) → Cleared limit st → 0 < limit → limit ≤ 2 ^ 62 → Grew st (emptied limit) planted
+tree_cleared limit st c a b = record {
+  sound = record { plain = cleared_plain limit st c a b; order = emptied st.limit; reach = start; means = means; told = told; nodes = nodes };
+  order_is = ap emptied c.limit_is;
+  tree_is = refl;
+}
   where
     told : (x : ℕ) → x < st.steps → step_label st x ≡ 0 ∷ []
     told x h =
@@ -100,7 +101,7 @@ module _ (st : State) (w : TreeSound st) (t : ℕ) where
         nodes_more second (nodes_more first w.nodes n (node_within first refl)) (node_old second 0 (node_old first 0 h.root))
         (node_old second up n)
 
-  pub tree_spawned : Ready st t 2 → TreeSound (tree_spawn st t) × (tree_order (tree_spawn st t) ≡ spawned (tree_order st) t)
+  pub tree_spawned : Ready st t 2 → Grew (tree_spawn st t) (spawned w.order t) (spawn_tree w.order t grown)
   tree_spawned y =
       let h = here st w t y.held y.runs in
       call_kept st (tree_spawn st t) w (λ m. spawned m t)
@@ -110,7 +111,7 @@ module _ (st : State) (w : TreeSound st) (t : ℕ) where
       (spawn_told st w.plain t (over_of st) (left_of st) (over_of (tree_spawn st t)) (left_of (tree_spawn st t)) (in_node st t 1)
       (right_of (leaf_of st t)) y)
 
-  pub tree_opened : Ready st t 1 → TreeSound (tree_open st t) × (tree_order (tree_open st t) ≡ opened (tree_order st) t)
+  pub tree_opened : Ready st t 1 → Grew (tree_open st t) (opened w.order t) (open_tree w.order t grown)
   tree_opened y =
       let h = here st w t y.held y.runs in
       let g : Seating st (tree_open st t) (in_node st t 2) = record { more = refl; link_is = refl } in
@@ -153,7 +154,7 @@ module _ (st : State) (w : TreeSound st) (t : ℕ) where
         right_fits beyond st.steps (omega arith) (omega arith)
 
   pub tree_closed : Ready st t 1 → 0 < (st.task t).own → (st.finish (st.task t).inner).alive ≡ 0
-      → TreeSound (tree_close st t) × (tree_order (tree_close st t) ≡ closed (tree_order st) t)
+      → Grew (tree_close st t) (closed w.order t) (close_tree w.order t grown)
   tree_closed y o z =
       let h = here st w t y.held y.runs in
       let (g, fs, e) = finishes_told st w.plain t (over_of st) (left_of st) y.held y.runs o in
@@ -169,8 +170,7 @@ module _ (st : State) (w : TreeSound st) (t : ℕ) where
           none_lives st w.plain t (over_of st) (left_of st) (st.task t).inner (w.plain.inner_held t y.held) z u
           (subst (λ (m : Order). T (m.lives (st.task t).inner u)) (sym w.means) l)
 
-  pub tree_ended : t < st.tasks → (st.task t).running ≡ true → (st.task t).own ≡ 0
-      → TreeSound (end_book st t) × (tree_order (end_book st t) ≡ done (tree_order st) t)
+  pub tree_ended : t < st.tasks → (st.task t).running ≡ true → (st.task t).own ≡ 0 → Grew (end_book st t) (done w.order t) grown
   tree_ended l r o =
       let h = here st w t l r in
       let own = ap Task.finishes h.task_is ∙ ap₂ (λ b n. cond b (chain st.finish n (st.task t).inner) []) r o in
@@ -179,4 +179,10 @@ module _ (st : State) (w : TreeSound st) (t : ℕ) where
       (end_told st w.plain t (over_of st) (left_of st) (over_of (end_book st t)) (left_of (end_book st t)) l r o)
 
 pub tree_keeps : Keeps TreeSound tree_plan
-tree_keeps = keeps_by TreeSound tree_plan (λ st w. w.plain) tree_cleared tree_spawned tree_opened tree_closed tree_ended
+tree_keeps =
+    keeps_by TreeSound tree_plan (λ st w. w.plain)
+    (λ limit st c a b. let g = tree_cleared limit st c a b in (g.sound, g.sound.means ∙ g.order_is))
+    (λ st w t y. call_stands st (tree_spawn st t) w (λ m. spawned m t) _ (tree_spawned st w t y))
+    (λ st w t y. call_stands st (tree_open st t) w (λ m. opened m t) _ (tree_opened st w t y))
+    (λ st w t y o z. call_stands st (tree_close st t) w (λ m. closed m t) _ (tree_closed st w t y o z))
+    (λ st w t l r o. call_stands st (end_book st t) w (λ m. done m t) _ (tree_ended st w t l r o))
