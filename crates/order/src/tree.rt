@@ -54,7 +54,7 @@ impl Planned for Tree {
     ghost Sound = { TreeSound };
 
     fn child_seat(book: &Book<'_>, task: u64) -> Seat {
-        seats::in_node(book, task, 1)
+        seats::in_task(book, task)
     }
 
     fn next_seat(book: &Book<'_>, task: u64) -> Seat {
@@ -62,7 +62,7 @@ impl Planned for Tree {
     }
 
     fn open_seat(book: &Book<'_>, task: u64) -> Seat {
-        seats::in_node(book, task, 2)
+        seats::in_finish(book, task)
     }
 
     fn close_seat(book: &Book<'_>, task: u64) -> Seat {

@@ -18,8 +18,26 @@ fn leaf(book: &Book<'_>, task: u64) -> Link
     book.link(2 * book.task(task).current + 1)
 }
 
-// In a new node to the right of the task's step, n turns on: 1 for a task and 2 for a finish.
-pub fn in_node(book: &Book<'_>, task: u64, n: u64) -> Seat
+// In the node of a new task, to the right of the task's step: one turn on.
+pub fn in_task(book: &Book<'_>, task: u64) -> Seat
+    requires plain { Plain (state_of book.now) }
+    requires held { task < (state_of book.now).tasks }
+    ensures value { result ≡ in_node (state_of book.now) task 1 }
+{
+    in_node(book, task, 1)
+}
+
+// In the node of a new finish, to the right of the task's step: two turns on.
+pub fn in_finish(book: &Book<'_>, task: u64) -> Seat
+    requires plain { Plain (state_of book.now) }
+    requires held { task < (state_of book.now).tasks }
+    ensures value { result ≡ in_node (state_of book.now) task 2 }
+{
+    in_node(book, task, 2)
+}
+
+// In a new node to the right of the task's step, n turns on.
+fn in_node(book: &Book<'_>, task: u64, n: u64) -> Seat
     requires plain { Plain (state_of book.now) }
     requires held { task < (state_of book.now).tasks }
     requires small { n ≤ 2 }
