@@ -25,15 +25,15 @@ answer_of m (Close t) = Next m.steps
 answer_of m (End t) = Last (m.task t).current
 
 -- what is meant after a call that is not refused
-abbrev pub made : Order → OrderCall → Order
-made m (Spawn t) = spawned m t
-made m (Open t) = opened m t
-made m (Close t) = closed m t
-made m (End t) = done m t
+abbrev pub order_made : Order → OrderCall → Order
+order_made m (Spawn t) = spawned m t
+order_made m (Open t) = opened m t
+order_made m (Close t) = closed m t
+order_made m (End t) = done m t
 
 -- what is meant after a call
 abbrev pub after_call : Order → OrderCall → Order
-after_call m c = moved (fault_of m c) m (made m c)
+after_call m c = moved (fault_of m c) m (order_made m c)
 
 -- what is meant after calls, in turn
 abbrev pub after_calls : Order → List OrderCall → Order

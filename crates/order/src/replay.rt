@@ -88,6 +88,8 @@ pub fn both_after<K: Keeper, L: Keeper>(
 ) -> (Standing, Standing)
     ensures one { SaysReached (K.meaning one.old).limit calls.now a b result.0 }
     ensures other { SaysReached (L.meaning other.old).limit calls.now a b result.1 }
+    ensures one_kept { K.meaning one.new ≡ after_calls (emptied (K.meaning one.old).limit) calls.now }
+    ensures other_kept { L.meaning other.new ≡ after_calls (emptied (L.meaning other.old).limit) calls.now }
     ensures agreed { (K.meaning one.old).limit ≡ (L.meaning other.old).limit → result.0 ≡ result.1 }
 {
     (

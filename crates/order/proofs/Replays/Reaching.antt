@@ -11,7 +11,7 @@ use Rattle.order.specs.declared.replay.OrderCall.{OrderCall}
 use Rattle.order.specs.declared.replay.OrderCall.TheVariants.{Spawn, Open, Close, End}
 use Rattle.order.specs.declared.replay.Standing.{Standing}
 use Rattle.order.specs.Calls.{first, spawn_tests, open_tests, close_tests, end_tests, moved}
-use Rattle.order.specs.Replays.{fault_of, made, after_call, after_calls, standing_in, neither}
+use Rattle.order.specs.Replays.{fault_of, order_made, after_call, after_calls, standing_in, neither}
 
 -- a task that lives somewhere is held
 lives_held : (limit : ℕ) (m : Order) → Reached limit m → (f u : ℕ) → T (m.lives f u) → u < m.tasks
@@ -57,7 +57,7 @@ none_passes : (p : ℕ → Bool) (n u : ℕ) → any p (below n) ≡ false → u
 none_passes p ℕ.zero u e l t = omega (arith, l)
 none_passes p (suc n) u e l t = grind (arith, nat_tests, e, l, t, none_passes p n u)
 
-pub call_reached : (limit : ℕ) (m : Order) → Reached limit m → (c : OrderCall) → fault_of m c ≡ None → Reached limit (made m c)
+pub call_reached : (limit : ℕ) (m : Order) → Reached limit m → (c : OrderCall) → fault_of m c ≡ None → Reached limit (order_made m c)
 call_reached limit m r (Spawn t) e = by_spawn m t r (runs (m.task t).running (failed (spawn_tests m t) e).0)
 call_reached limit m r (Open t) e = by_open m t r (runs (m.task t).running (failed (open_tests m t) e).0)
 call_reached limit m r (Close t) e =
@@ -74,8 +74,8 @@ call_reached limit m r (End t) e =
 
 -- refused or not
 either_reached : (limit : ℕ) (m : Order) → Reached limit m → (c : OrderCall) (o : Option OrderFault) → fault_of m c ≡ o → Reached limit (after_call m c)
-either_reached limit m r c None e = subst (λ z. Reached limit (moved z m (made m c))) (sym e) (call_reached limit m r c e)
-either_reached limit m r c (Some f) e = subst (λ z. Reached limit (moved z m (made m c))) (sym e) r
+either_reached limit m r c None e = subst (λ z. Reached limit (moved z m (order_made m c))) (sym e) (call_reached limit m r c e)
+either_reached limit m r c (Some f) e = subst (λ z. Reached limit (moved z m (order_made m c))) (sym e) r
 
 pub calls_reached : (limit : ℕ) (m : Order) → Reached limit m → (cs : List OrderCall) → Reached limit (after_calls m cs)
 calls_reached limit m r [] = r

@@ -16,14 +16,14 @@ use Rattle.order.specs.States.{State, Cleared}
 use Rattle.order.specs.Invariants.{Plain, plain_prop}
 use Rattle.order.specs.Trees.{TreeSound, step_label, tree_order, climbed}
 use Rattle.order.specs.Keepers.{relation_in}
-use Rattle.order.specs.Replays.{fault_of, made, after_call, after_calls}
+use Rattle.order.specs.Replays.{fault_of, order_made, after_call, after_calls}
 use Rattle.order.specs.Grown.{Grew, GrewBy, tree_made, tree_after_call, grown, tree_after, book_made, book_after_call}
 use Rattle.order.proofs.Books.Telling.{spawn_ready, open_ready, close_ready, end_ready}
 use Rattle.order.proofs.Trees.Kept.{tree_cleared, tree_spawned, tree_opened, tree_closed, tree_ended}
 
 -- a call that is not refused
 call_grew : (st : State) (w : TreeSound st) (c : OrderCall) → fault_of (tree_order st) c ≡ None
-    → Grew (book_made st c) (made w.order c) (tree_made w.order c (tree_of w.reach))
+    → Grew (book_made st c) (order_made w.order c) (tree_made w.order c (tree_of w.reach))
 call_grew st w (Spawn t) e = tree_spawned st w t (spawn_ready st w.plain t e)
 call_grew st w (Open t) e = tree_opened st w t (open_ready st w.plain t e)
 call_grew st w (Close t) e = let r = close_ready st w.plain t e in tree_closed st w t r.0 r.1 r.2
@@ -45,8 +45,8 @@ call_grows st m w g c =
     let z = tree_of s.reach in
     let o = fault_of (tree_order st) c in
     let same : o ≡ fault_of s.order c = ap (λ n. fault_of n c) s.means in
-    grew_as (either_grew st s (book_made st c) (made s.order c) (tree_made s.order c z) o (call_grew st s c))
-    (ap (λ q. moved q s.order (made s.order c)) same ∙ ap (λ n. after_call n c) g.order_is)
+    grew_as (either_grew st s (book_made st c) (order_made s.order c) (tree_made s.order c z) o (call_grew st s c))
+    (ap (λ q. moved q s.order (order_made s.order c)) same ∙ ap (λ n. after_call n c) g.order_is)
     (ap (λ q. moved q z (tree_made s.order c z)) same ∙ ap₂ (λ n y. tree_after_call n y c) g.order_is g.tree_is)
 
 -- one call after others
