@@ -2,14 +2,14 @@
 // together in a tree, with place 0 at its root; the keeper says what stands at them.
 
 // Where a place hangs: from which other place, and by which turn of those that there are at that one. Place 0 hangs from itself.
-#[derive(Clone, Copy, PartialEq, Eq, Debug)]
+#[derive(Clone, Copy)]
 pub struct Link {
     pub up: u64,
     pub turn: u64,
 }
 
 // Where the two places of a new step hang: 2 x for a node, if one goes by the step, and 2 x + 1 for the step itself.
-#[derive(Clone, Copy, PartialEq, Eq, Debug)]
+#[derive(Clone, Copy)]
 pub struct Seat {
     pub node: Link,
     pub leaf: Link,
@@ -17,7 +17,7 @@ pub struct Seat {
 
 // A task: whether it runs, its current step, its innermost finish, how many of its finishes are its own, and the one that it
 // lives in.
-#[derive(Clone, Copy, PartialEq, Eq, Debug)]
+#[derive(Clone, Copy)]
 pub struct TaskRow {
     pub running: bool,
     pub current: u64,
@@ -27,7 +27,7 @@ pub struct TaskRow {
 }
 
 // A finish: the one around it, how many tasks live in it, and the step that closed it, or 0 while it is open (step 0 closes none).
-#[derive(Clone, Copy, PartialEq, Eq, Debug)]
+#[derive(Clone, Copy)]
 pub struct FinishRow {
     pub outer: u64,
     pub alive: u64,
@@ -35,7 +35,7 @@ pub struct FinishRow {
 }
 
 // One record of the memory that a keeper is lent. A number has four: the links of two places, a task and a finish.
-#[derive(Clone, Copy, PartialEq, Eq, Debug)]
+#[derive(Clone, Copy)]
 pub enum OrderRecord {
     Link(Link),
     Task(TaskRow),

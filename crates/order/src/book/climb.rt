@@ -8,7 +8,7 @@ use super::Book;
 
 // The turns by which two ways up enter the place where they meet, 0 for a way that is there from the start, and the number of links on
 // both.
-#[derive(Clone, Copy, PartialEq, Eq, Debug)]
+#[derive(Clone, Copy)]
 pub struct Fork {
     pub left: u64,
     pub right: u64,
