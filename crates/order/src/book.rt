@@ -23,21 +23,21 @@ pub struct Book<'a> {
 
 impl<'a> Book<'a> {
     // How many steps it may hold.
-    pub fn limit(&self) -> u64
+    pub(crate) fn limit(&self) -> u64
         ensures value { result ≡ (state_of self.now).limit }
     {
         self.rows.limit()
     }
 
     // Whether both steps are held.
-    pub fn holds(&self, a: u64, b: u64) -> bool
+    pub(crate) fn holds(&self, a: u64, b: u64) -> bool
         ensures value { let st = state_of self.now in result ≡ (nat_lt a st.steps && nat_lt b st.steps) }
     {
         a < self.steps && b < self.steps
     }
 
     // Where the place p hangs.
-    pub fn link(&self, p: u64) -> Link
+    pub(crate) fn link(&self, p: u64) -> Link
         requires { Room (state_of self.now) (p / 2) }
         ensures value { result ≡ (state_of self.now).link p }
     {
@@ -48,7 +48,7 @@ impl<'a> Book<'a> {
     }
 
     // Hangs the place p.
-    pub fn hang(&mut self, p: u64, link: Link)
+    pub(crate) fn hang(&mut self, p: u64, link: Link)
         requires { Room (state_of self.old) (p / 2) }
         ensures hung { state_of self.new ≡ record (state_of self.old) { link = put (state_of self.old).link p link } }
     {
@@ -57,7 +57,7 @@ impl<'a> Book<'a> {
     }
 
     // The task t.
-    pub fn task(&self, t: u64) -> TaskRow
+    pub(crate) fn task(&self, t: u64) -> TaskRow
         requires { Room (state_of self.now) t }
         ensures value { result ≡ (state_of self.now).task t }
     {
@@ -73,7 +73,7 @@ impl<'a> Book<'a> {
         }
     }
 
-    pub fn set_task(&mut self, t: u64, task: TaskRow)
+    pub(crate) fn set_task(&mut self, t: u64, task: TaskRow)
         requires { Room (state_of self.old) t }
         ensures set { state_of self.new ≡ record (state_of self.old) { task = put (state_of self.old).task t task } }
     {
@@ -81,7 +81,7 @@ impl<'a> Book<'a> {
     }
 
     // The finish f.
-    pub fn finish(&self, f: u64) -> FinishRow
+    pub(crate) fn finish(&self, f: u64) -> FinishRow
         requires { Room (state_of self.now) f }
         ensures value { result ≡ (state_of self.now).finish f }
     {
@@ -95,7 +95,7 @@ impl<'a> Book<'a> {
         }
     }
 
-    pub fn set_finish(&mut self, f: u64, finish: FinishRow)
+    pub(crate) fn set_finish(&mut self, f: u64, finish: FinishRow)
         requires { Room (state_of self.old) f }
         ensures set { state_of self.new ≡ record (state_of self.old) { finish = put (state_of self.old).finish f finish } }
     {

@@ -15,14 +15,14 @@ pub struct Rows<'a> {
 
 impl<'a> Rows<'a> {
     // How many numbers have all four records.
-    pub fn limit(&self) -> u64
+    pub(crate) fn limit(&self) -> u64
         ensures value { result ≡ limit_of self.now }
     {
         1 + (self.lent.len() / 4) as u64
     }
 
     // The record with the index i.
-    pub fn get(&self, i: usize) -> OrderRecord
+    pub(crate) fn get(&self, i: usize) -> OrderRecord
         requires { i < 4 * limit_of self.now }
         ensures value { result ≡ row_of self.now i }
     {
@@ -34,7 +34,7 @@ impl<'a> Rows<'a> {
     }
 
     // Writes the record with the index i.
-    pub fn set(&mut self, i: usize, row: OrderRecord)
+    pub(crate) fn set(&mut self, i: usize, row: OrderRecord)
         requires { i < 4 * limit_of self.old }
         ensures limit { limit_of self.new ≡ limit_of self.old }
         ensures set { row_of self.new ≡ put (row_of self.old) i row }

@@ -17,7 +17,7 @@ impl<'a> Book<'a> {
     }
 
     // A new task and its first step; the spawner's next step.
-    pub fn spawn(&mut self, task: u64, child: Seat, next: Seat) -> (u64, u64)
+    pub(crate) fn spawn(&mut self, task: u64, child: Seat, next: Seat) -> (u64, u64)
         requires plain { Plain (state_of self.old) }
         requires held { task < (state_of self.old).tasks }
         requires room { (state_of self.old).steps + 2 ≤ (state_of self.old).limit }
@@ -59,7 +59,7 @@ impl<'a> Book<'a> {
     }
 
     // A new finish, and the task's next step.
-    pub fn open(&mut self, task: u64, next: Seat) -> u64
+    pub(crate) fn open(&mut self, task: u64, next: Seat) -> u64
         requires plain { Plain (state_of self.old) }
         requires held { task < (state_of self.old).tasks }
         requires room { (state_of self.old).steps + 1 ≤ (state_of self.old).limit }
@@ -93,7 +93,7 @@ impl<'a> Book<'a> {
     }
 
     // The task's next step, which closes its innermost finish.
-    pub fn close(&mut self, task: u64, next: Seat) -> u64
+    pub(crate) fn close(&mut self, task: u64, next: Seat) -> u64
         requires plain { Plain (state_of self.old) }
         requires held { task < (state_of self.old).tasks }
         requires owns { 0 < ((state_of self.old).task task).own }
@@ -126,7 +126,7 @@ impl<'a> Book<'a> {
     }
 
     // The task's last step. One task fewer lives in its finish.
-    pub fn end(&mut self, task: u64) -> u64
+    pub(crate) fn end(&mut self, task: u64) -> u64
         requires plain { Plain (state_of self.old) }
         requires held { task < (state_of self.old).tasks }
         requires alive { 0 < ((state_of self.old).finish ((state_of self.old).task task).inner).alive }

@@ -17,14 +17,14 @@ pub struct Fork {
 
 impl Fork {
     // Whether the first way turns to the left of the second.
-    pub fn is_left(self) -> bool
+    pub(crate) fn is_left(self) -> bool
         ensures value { result ≡ nat_lt self.left self.right }
     {
         self.left < self.right
     }
 
     // Whether it does, and its turn is even: it leads into no task.
-    pub fn is_over(self) -> bool
+    pub(crate) fn is_over(self) -> bool
         ensures value { result ≡ (nat_lt self.left self.right && self.left % 2 == 0) }
     {
         self.is_left() && self.left % 2 == 0
@@ -33,7 +33,7 @@ impl Fork {
 
 impl<'a> Book<'a> {
     // Climbs from the later of the two places until they are one: a place hangs from an earlier one.
-    pub fn climb(&self, a: u64, b: u64) -> Fork
+    pub(crate) fn climb(&self, a: u64, b: u64) -> Fork
         requires plain { Plain (state_of self.now) }
         requires held { (a < 2 * (state_of self.now).steps) × (b < 2 * (state_of self.now).steps) }
         ensures forked { Forked (state_of self.now).link a b result }

@@ -10,7 +10,7 @@ use crate::fault::OrderFault;
 use crate::plan::Planned;
 
 impl<'a> Book<'a> {
-    pub fn try_spawn<P: Planned>(&mut self, task: u64) -> Result<(u64, u64), OrderFault>
+    pub(crate) fn try_spawn<P: Planned>(&mut self, task: u64) -> Result<(u64, u64), OrderFault>
         requires { Plain (state_of self.old) }
         ensures answered { let m = tasks_in self.old in result ≡ reply (spawn_fault m task) (m.steps, m.steps + 1) }
         ensures kept { let st = state_of self.old in
@@ -22,7 +22,7 @@ impl<'a> Book<'a> {
         Ok(self.spawn(task, child, next))
     }
 
-    pub fn try_open<P: Planned>(&mut self, task: u64) -> Result<u64, OrderFault>
+    pub(crate) fn try_open<P: Planned>(&mut self, task: u64) -> Result<u64, OrderFault>
         requires { Plain (state_of self.old) }
         ensures answered { let m = tasks_in self.old in result ≡ reply (open_fault m task) m.steps }
         ensures kept { let st = state_of self.old in
@@ -33,7 +33,7 @@ impl<'a> Book<'a> {
         Ok(self.open(task, next))
     }
 
-    pub fn try_close<P: Planned>(&mut self, task: u64) -> Result<u64, OrderFault>
+    pub(crate) fn try_close<P: Planned>(&mut self, task: u64) -> Result<u64, OrderFault>
         requires { Plain (state_of self.old) }
         ensures answered { let m = tasks_in self.old in result ≡ reply (close_fault m task) m.steps }
         ensures kept { let st = state_of self.old in
@@ -44,7 +44,7 @@ impl<'a> Book<'a> {
         Ok(self.close(task, next))
     }
 
-    pub fn try_end(&mut self, task: u64) -> Result<u64, OrderFault>
+    pub(crate) fn try_end(&mut self, task: u64) -> Result<u64, OrderFault>
         requires { Plain (state_of self.old) }
         ensures answered { let m = tasks_in self.old in result ≡ reply (end_fault m task) (m.task task).current }
         ensures kept { let st = state_of self.old in

@@ -12,14 +12,14 @@ use crate::keeper::TaskStage;
 
 impl<'a> Book<'a> {
     // Whether the task is held and runs.
-    pub fn runs(&self, task: u64) -> bool
+    pub(crate) fn runs(&self, task: u64) -> bool
         requires { Plain (state_of self.now) }
         ensures value { result ≡ ((tasks_in self.now).task task).running }
     {
         task < self.tasks && self.task(task).running
     }
 
-    pub fn stage(&self, task: u64) -> TaskStage
+    pub(crate) fn stage(&self, task: u64) -> TaskStage
         requires { Plain (state_of self.now) }
         ensures value { result ≡ stage_of ((tasks_in self.now).task task) }
     {
@@ -31,7 +31,7 @@ impl<'a> Book<'a> {
     }
 
     // The step that the task is on, or ended on; 0 for one that is not held.
-    pub fn current(&self, task: u64) -> u64
+    pub(crate) fn current(&self, task: u64) -> u64
         requires { Plain (state_of self.now) }
         ensures value { result ≡ ((tasks_in self.now).task task).current }
     {
@@ -85,7 +85,7 @@ impl<'a> Book<'a> {
 
     // Whether the task may spawn, open, close or end, or why not: the first fault that fits.
 
-    pub fn check_spawn(&self, task: u64) -> Result<(), OrderFault>
+    pub(crate) fn check_spawn(&self, task: u64) -> Result<(), OrderFault>
         requires { Plain (state_of self.now) }
         ensures answered { result ≡ reply (spawn_fault (tasks_in self.now) task) tt }
     {
@@ -93,7 +93,7 @@ impl<'a> Book<'a> {
         self.check_room(2)
     }
 
-    pub fn check_open(&self, task: u64) -> Result<(), OrderFault>
+    pub(crate) fn check_open(&self, task: u64) -> Result<(), OrderFault>
         requires { Plain (state_of self.now) }
         ensures answered { result ≡ reply (open_fault (tasks_in self.now) task) tt }
     {
@@ -101,7 +101,7 @@ impl<'a> Book<'a> {
         self.check_room(1)
     }
 
-    pub fn check_close(&self, task: u64) -> Result<(), OrderFault>
+    pub(crate) fn check_close(&self, task: u64) -> Result<(), OrderFault>
         requires { Plain (state_of self.now) }
         ensures answered { result ≡ reply (close_fault (tasks_in self.now) task) tt }
     {
@@ -115,7 +115,7 @@ impl<'a> Book<'a> {
         }
     }
 
-    pub fn check_end(&self, task: u64) -> Result<(), OrderFault>
+    pub(crate) fn check_end(&self, task: u64) -> Result<(), OrderFault>
         requires { Plain (state_of self.now) }
         ensures answered { result ≡ reply (end_fault (tasks_in self.now) task) tt }
     {

@@ -28,7 +28,7 @@ fn first_rows() -> [OrderRecord; 4]
 }
 
 impl<'a> Book<'a> {
-    pub fn new(records: &'a mut [OrderRecord]) -> Book<'a>
+    pub(crate) fn new(records: &'a mut [OrderRecord]) -> Book<'a>
         ensures cleared { Cleared (1 + length records.old / 4) (state_of result) }
         ensures small { (state_of result).limit ≤ 2 ^ 62 }
     {
@@ -44,7 +44,7 @@ impl<'a> Book<'a> {
     }
 
     // Starts afresh. The records that were lent stay as they are: none of them is held any more.
-    pub fn clear(&mut self)
+    pub(crate) fn clear(&mut self)
         ensures cleared { Cleared (state_of self.old).limit (state_of self.new) }
     {
         self.rows.first = first_rows();

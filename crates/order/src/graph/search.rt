@@ -48,7 +48,7 @@ fn met(book: &Book<'_>, y: u64, b: u64) -> bool
 }
 
 // Whether a search back from the step b finds a.
-pub fn searched(book: &Book<'_>, a: u64, b: u64) -> bool
+pub(crate) fn searched(book: &Book<'_>, a: u64, b: u64) -> bool
     requires plain { Plain (state_of book.now) }
     requires searchable { Searchable (state_of book.now) }
     requires held { (a < (state_of book.now).steps) × (b < (state_of book.now).steps) }

@@ -22,7 +22,7 @@ fn comes_from(x: u64, from: u64, home: u64) -> Seat
 }
 
 // The first step of a task that the task spawns.
-pub fn child(book: &Book<'_>, task: u64) -> Seat
+pub(crate) fn child(book: &Book<'_>, task: u64) -> Seat
     requires plain { Plain (state_of book.now) }
     requires held { task < (state_of book.now).tasks }
     ensures value { let st = state_of book.now in result ≡ comes_from st.steps (st.task task).current (st.task task).inner }
@@ -32,7 +32,7 @@ pub fn child(book: &Book<'_>, task: u64) -> Seat
 }
 
 // The task's next step, x.
-pub fn next(book: &Book<'_>, task: u64, x: u64) -> Seat
+pub(crate) fn next(book: &Book<'_>, task: u64, x: u64) -> Seat
     requires plain { Plain (state_of book.now) }
     requires held { task < (state_of book.now).tasks }
     ensures value { result ≡ goes_on (state_of book.now) task x }

@@ -30,7 +30,7 @@ fn make(book: &mut Book<'_>, call: OrderCall)
 }
 
 // Starts afresh and makes the calls in turn, whatever is refused.
-pub fn regrow(book: &mut Book<'_>, calls: &[OrderCall])
+pub(crate) fn regrow(book: &mut Book<'_>, calls: &[OrderCall])
     requires { Plain (state_of book.old) }
     ensures grew { GrewBy (state_of book.new) (state_of book.old).limit calls.now }
 {

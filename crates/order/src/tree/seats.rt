@@ -19,7 +19,7 @@ fn leaf(book: &Book<'_>, task: u64) -> Link
 }
 
 // In the node of a new task, to the right of the task's step: one turn on.
-pub fn in_task(book: &Book<'_>, task: u64) -> Seat
+pub(crate) fn in_task(book: &Book<'_>, task: u64) -> Seat
     requires plain { Plain (state_of book.now) }
     requires held { task < (state_of book.now).tasks }
     ensures value { result ≡ in_node (state_of book.now) task 1 }
@@ -28,7 +28,7 @@ pub fn in_task(book: &Book<'_>, task: u64) -> Seat
 }
 
 // In the node of a new finish, to the right of the task's step: two turns on.
-pub fn in_finish(book: &Book<'_>, task: u64) -> Seat
+pub(crate) fn in_finish(book: &Book<'_>, task: u64) -> Seat
     requires plain { Plain (state_of book.now) }
     requires held { task < (state_of book.now).tasks }
     ensures value { result ≡ in_node (state_of book.now) task 2 }
@@ -57,7 +57,7 @@ fn in_node(book: &Book<'_>, task: u64, n: u64) -> Seat
 }
 
 // To the right of the new task's node.
-pub fn beside_step(book: &Book<'_>, task: u64) -> Seat
+pub(crate) fn beside_step(book: &Book<'_>, task: u64) -> Seat
     requires plain { Plain (state_of book.now) }
     requires held { task < (state_of book.now).tasks }
     ensures value { result ≡ right_of (leaf_of (state_of book.now) task) }
@@ -66,7 +66,7 @@ pub fn beside_step(book: &Book<'_>, task: u64) -> Seat
 }
 
 // To the right of the node under which the task's step hangs, which is its innermost finish's.
-pub fn beside_finish(book: &Book<'_>, task: u64) -> Seat
+pub(crate) fn beside_finish(book: &Book<'_>, task: u64) -> Seat
     requires plain { Plain (state_of book.now) }
     requires held { task < (state_of book.now).tasks }
     ensures value { result ≡ right_of ((state_of book.now).link (leaf_of (state_of book.now) task).up) }
