@@ -8,8 +8,8 @@ mod shown;
 
 pub use numbers::{CellName, LARGEST};
 
-// A block of a mailbox's index, which tasks read and write.
-#[derive(Clone, Copy, PartialEq, Eq, Debug)]
+// A block of a mailbox's index, which tasks read and write. Cells are in order by mailbox, and then by block.
+#[derive(Clone, Copy, PartialEq, Eq, PartialOrd, Ord, Debug)]
 pub struct Cell {
     pub mailbox: u64,
     pub block: u64,

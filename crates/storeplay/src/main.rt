@@ -1,0 +1,49 @@
+// Plays rows of numbers on both cell stores, and prints what they answer.
+#![tactic(auto)]
+
+mod numbers;
+mod play;
+mod row;
+mod tally;
+
+use cells::{CellRecord, NameRecord, PairRecord, Record, TreeNode};
+use numbers::OneHome;
+use play::play_both;
+use row::Row;
+use std::io;
+
+// Rows of numbers, each with how many records it has.
+const ROWS: [(Row, usize); 7] = [
+    (Row::Rising(5_000), 5_000),
+    (Row::Falling(5_000), 5_000),
+    (Row::Any(20_000), 20_000),
+    (Row::Any(20_000), 5_000),
+    (Row::Rising(3_000), 2_000),
+    (Row::Any(10), 1),
+    (Row::Any(10), 0),
+];
+
+// What keys that share one home slot are played with.
+const CLASHING: (Row, usize) = (Row::Any(3_000), 2_000);
+
+fn main(rt: HostRuntime) -> io::Result<()> {
+    let alloc = rt.alloc();
+    for (row, lent) in ROWS {
+        let mut records = vec![in alloc; NameRecord::BLANK; lent]?;
+        let mut nodes = vec![in alloc; TreeNode::<NameRecord>::BLANK; lent]?;
+        let tallies = play_both(records.as_mut_slice(), nodes.as_mut_slice(), row);
+        println!(rt; "names, {row}, {lent} records: {tallies}")?;
+    }
+    for (row, lent) in ROWS {
+        let mut records = vec![in alloc; CellRecord::BLANK; lent]?;
+        let mut nodes = vec![in alloc; TreeNode::<CellRecord>::BLANK; lent]?;
+        let tallies = play_both(records.as_mut_slice(), nodes.as_mut_slice(), row);
+        println!(rt; "cells, {row}, {lent} records: {tallies}")?;
+    }
+    let (row, lent) = CLASHING;
+    let mut records = vec![in alloc; PairRecord::<OneHome, u64>::BLANK; lent]?;
+    let mut nodes = vec![in alloc; TreeNode::<PairRecord<OneHome, u64>>::BLANK; lent]?;
+    let tallies = play_both(records.as_mut_slice(), nodes.as_mut_slice(), row);
+    println!(rt; "keys of one home slot, {row}, {lent} records: {tallies}")?;
+    Ok(())
+}
