@@ -139,22 +139,20 @@ module _ {K V : Type 0} (cmp : K → K → Ordering) (same : K → K → Bool) (
             find_in-absent same refl_same exact xs key (sought_root key i w q).2.2 ∙ sym (ap (option_map (λ p. p.1)) q)
         go (Some p) q = let s = sought_found key i p w q in find_in-only same refl_same exact xs key i s.0 s.1
 
-    -- a put where the walk ends at a slot
-    pub answer_at : (key : K) (i : ℕ) → walk_for cmp xs ls key ≡ Some (At i) → put_answer (keyed_in same xs) key ≡ Ok tt
-    answer_at key i w = go (pair_at xs i) refl
+    -- a put where the walk ends at a slot: its answer, and what is meant after it
+    pub put_at : (key : K) (i : ℕ) (v : V) → walk_for cmp xs ls key ≡ Some (At i)
+        → (put_answer (keyed_in same xs) key ≡ Ok tt)
+        × (keyed_in same (set xs i (Some (key, v))) ≡ after_put same (keyed_in same xs) key v)
+    put_at key i v w = go (pair_at xs i) refl
       where
-        go : (o : Option (K × V)) → pair_at xs i ≡ o → put_answer (keyed_in same xs) key ≡ Ok tt
-        go None q = put_answer-sought same refl_same exact xs key (Free i) (sought_root key i w q).2
-        go (Some p) q = put_answer-sought same refl_same exact xs key (Found i) (sought_found key i p w q)
-
-    pub kept_at : (key : K) (i : ℕ) (v : V) → walk_for cmp xs ls key ≡ Some (At i)
-        → keyed_in same (set xs i (Some (key, v))) ≡ after_put same (keyed_in same xs) key v
-    kept_at key i v w = go (pair_at xs i) refl
-      where
-        go : (o : Option (K × V)) → pair_at xs i ≡ o
-            → keyed_in same (set xs i (Some (key, v))) ≡ after_put same (keyed_in same xs) key v
-        go None q = keyed_in-laid same refl_same exact xs key v (Free i) (sought_root key i w q).2
-        go (Some p) q = keyed_in-laid same refl_same exact xs key v (Found i) (sought_found key i p w q)
+        go : (o : Option (K × V)) → pair_at xs i ≡ o → (put_answer (keyed_in same xs) key ≡ Ok tt)
+            × (keyed_in same (set xs i (Some (key, v))) ≡ after_put same (keyed_in same xs) key v)
+        go None q =
+            let s = (sought_root key i w q).2 in
+            (put_answer-sought same refl_same exact xs key (Free i) s, keyed_in-laid same refl_same exact xs key v (Free i) s)
+        go (Some p) q =
+            let s = sought_found key i p w q in
+            (put_answer-sought same refl_same exact xs key (Found i) s, keyed_in-laid same refl_same exact xs key v (Found i) s)
 
 -- how many slots are used then
 pub counted_at : {P : Type 0} (xs : List (Option P)) (i : ℕ) (p : P) → i < length xs

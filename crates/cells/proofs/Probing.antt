@@ -1,6 +1,6 @@
 -- A search that stops at a slot has passed every slot that could have its key; a key laid where it stopped can be found again.
 use Rattle.std.proofs.Common.{◌≡◌, refl, sym, ap, subst, ◌∙◌, ◌⊎◌, inl, inr, ℕ, suc, ◌^◌, ◌<◌, ◌≤◌, arith}
-use Rattle.std.proofs.Common.{Bool, true, false, not, T, ◌==◌, [], ◌∷◌, length, set, replicate, Some, None, Option}
+use Rattle.std.proofs.Common.{Bool, true, false, cond, not, T, ◌==◌, [], ◌∷◌, length, set, replicate, Some, None, Option}
 use Rattle.std.proofs.Math.Nat.{div-lt_iff_lt-mul, mul-lt-mul_of_pos_right}
 use Rattle.std.proofs.lemmas.Bool.{both_ways, cases_Bool, cases_eq, cases_lt, cases_order, not-true, eq-eqb, ne_eqb}
 use Rattle.std.proofs.lemmas.Bool.Decides.{nat_tests}
@@ -9,7 +9,7 @@ use Rattle.std.proofs.lemmas.List.{get_or-set_same, get_or-set_other, get_or_pas
 use Rattle.cells.specs.declared.slots.Seek.{Seek}
 use Rattle.cells.specs.declared.slots.Seek.TheVariants.{Found, Free, Full}
 use Rattle.cells.specs.Slots.{Pairs, pair_at, used_in, has_key, Absent, Sought, laid}
-use Rattle.cells.specs.Probes.{home, visit, distance, has_other, Passed, PassedTo, Probed, FreeFound}
+use Rattle.cells.specs.Probes.{home, visit, distance, has_other, met, Passed, PassedTo, Probed, FreeFound}
 use Rattle.cells.proofs.Meant.{pair_at-blank, only_pair}
 
 -- the ring of slots
@@ -157,28 +157,40 @@ module _ {K V : Type 0} (same : K → K → Bool) (refl_same : (a : K) → same 
               let other = passed k (subst (λ x. k < x) far u) in
               subst (λ x. has_other same key (pair_at xs (visit (length xs) x k)) ≡ true) from other
 
-          -- the slot holds o
+          -- the slot is free, or has the key
 
-          pub sought_free : (o : Option (K × V)) → o ≡ pair_at xs i → o ≡ None → Sought same key xs (Free i)
-          sought_free o r f = (within, e, λ j. at j (cases_eq j i))
+          sought_free : pair_at xs i ≡ None → Sought same key xs (Free i)
+          sought_free e = (within, e, λ j. at j (cases_eq j i))
             where
-              e : pair_at xs i ≡ None
-              e = sym r ∙ f
-
               at : (j : ℕ) → (j ≡ i) ⊎ (j ≡ i → ⊥) → has_key same key (pair_at xs j) ≡ false
               at j (inl q) = ap (λ x. has_key same key (pair_at xs x)) q ∙ ap (has_key same key) e
               at j (inr d) = lacks i within passed_to (ap (has_other same key) e) j d
 
-          pub sought_found : (o : Option (K × V)) (p : K × V) (t : Bool) → o ≡ pair_at xs i → o ≡ Some p
-              → t ≡ same p.0 key → t ≡ true → Sought same key xs (Found i)
-          sought_found o p t r f s y = (within, λ j. at j (cases_eq j i))
+          sought_found : (p : K × V) → pair_at xs i ≡ Some p → same p.0 key ≡ true → Sought same key xs (Found i)
+          sought_found p f y = (within, λ j. at j (cases_eq j i))
             where
               e : pair_at xs i ≡ Some (key, p.1)
-              e = sym r ∙ (f ∙ exactly key p (sym s ∙ y))
+              e = f ∙ exactly key p y
 
               at : (j : ℕ) → (j ≡ i) ⊎ (j ≡ i → ⊥) → has_key same key (pair_at xs j) ≡ (j == i)
               at j (inl q) = ap (λ x. has_key same key (pair_at xs x)) q ∙ (has_own key p.1 (pair_at xs i) e ∙ sym (eq-eqb j i q))
               at j (inr d) = lacks i within passed_to (no_other key p.1 (pair_at xs i) e) j d ∙ sym (ne_eqb j i d)
+
+          -- what it comes to there
+          pub sought_met : (seek : Seek) → met same key i (pair_at xs i) ≡ Some seek
+              → Sought same key xs seek × FreeFound same hashed key xs seek
+          sought_met seek e = go (pair_at xs i) refl e
+            where
+              Come : Seek → Type 0
+              Come seek = Sought same key xs seek × FreeFound same hashed key xs seek
+
+              own : (p : K × V) (t : Bool) → pair_at xs i ≡ Some p → same p.0 key ≡ t → cond t (Some (Found i)) None ≡ Some seek → Come seek
+              own p true q y e = let s : Found i ≡ seek = cc in subst Come s (sought_found p q y, tt)
+              own p false q y e = cc
+
+              go : (o : Option (K × V)) → pair_at xs i ≡ o → met same key i o ≡ Some seek → Come seek
+              go None q e = let s : Free i ≡ seek = cc in subst Come s (sought_free q, passed_to)
+              go (Some p) q e = own p (same p.0 key) q refl e
 
         pub sought_full : n ≤ d → Sought same key xs Full
         sought_full all = (used_in-others same key xs others, absent-others same key xs others)

@@ -23,6 +23,11 @@ module _ {K V : Type 0} (same : K → K → Bool) where
   has_other key None = false
   has_other key (Some p) = not (same p.0 key)
 
+  -- what a search for the key comes to in the slot i, by what that holds; none, if that is another key
+  abbrev pub met : K → ℕ → Option (K × V) → Option Seek
+  met key i None = Some (Free i)
+  met key i (Some p) = cond (same p.0 key) (Some (Found i)) None
+
   -- the first t slots from the slot h on are used by other keys
   abbrev pub Passed : K → Pairs K V → ℕ → ℕ → Type 0
   Passed key xs h t = (d : ℕ) → d < t → has_other key (pair_at xs (visit (length xs) h d)) ≡ true

@@ -8,7 +8,7 @@ mod tally;
 
 use cells::{CellRecord, NameRecord, PairRecord, Record, TreeNode};
 use numbers::OneHome;
-use play::play_both;
+use play::{look_both, play_both};
 use row::Row;
 use std::io;
 
@@ -23,11 +23,20 @@ const ROWS: [(Row, usize); 7] = [
     (Row::Any(10), 0),
 ];
 
+// Puts of which a store with one record refuses the second.
+const PUTS: [(u64, u64); 3] = [(1, 7), (2, 8), (1, 9)];
+
 // What keys that share one home slot are played with.
 const CLASHING: (Row, usize) = (Row::Any(3_000), 2_000);
 
 fn main(rt: HostRuntime) -> io::Result<()> {
     let alloc = rt.alloc();
+    let mut records = vec![in alloc; NameRecord::BLANK; 1]?;
+    let mut nodes = vec![in alloc; TreeNode::<NameRecord>::BLANK; 1]?;
+    for name in 1..3 {
+        let (table, tree) = look_both(records.as_mut_slice(), nodes.as_mut_slice(), &PUTS, name);
+        println!(rt; "one record, name {name}: {table:?} in the table, {tree:?} in the tree")?;
+    }
     for (row, lent) in ROWS {
         let mut records = vec![in alloc; NameRecord::BLANK; lent]?;
         let mut nodes = vec![in alloc; TreeNode::<NameRecord>::BLANK; lent]?;

@@ -1,5 +1,6 @@
 // Rows of numbers, played on any store, and on both.
-ghost use Rattle.std.specs.Prelude.{◌≡◌, ◌*◌, length};
+ghost use Rattle.std.specs.Prelude.{◌≡◌, ◌*◌, length, nat_eq};
+ghost use Rattle.cells.specs.Puts.{taken, last_put};
 ghost use Rattle.storeplay.specs.Rows.{count_of};
 ghost use Rattle.storeplay.specs.Tallies.{blank};
 ghost use Rattle.storeplay.specs.Plays.{meant, puts_told, looks_told, played};
@@ -7,7 +8,7 @@ ghost use Rattle.storeplay.specs.Plays.{meant, puts_told, looks_told, played};
 use crate::numbers::{FromNumber, Numbered};
 use crate::row::Row;
 use crate::tally::{Tallies, Tally};
-use cells::{Record, SearchTree, Store, StoreKey, Table, TreeNode};
+use cells::{NameRecord, Record, SearchTree, Store, StoreKey, Table, TreeNode, look_after};
 
 // Empties the store, puts the numbers in turn, and tells the answers.
 fn play_puts<K: StoreKey + FromNumber, V: Numbered + Copy, S: Store<Key = K, Value = V>>(
@@ -71,4 +72,20 @@ pub fn play_both<K: StoreKey + FromNumber, V: Numbered + Copy, R: Record<Key = K
     let mut tree = Tally::new();
     play(&mut SearchTree::new(nodes), row, &mut tree);
     Tallies { table, tree }
+}
+
+// Looks at a name after the puts, on both stores.
+pub fn look_both(
+    records: &mut [NameRecord],
+    nodes: &mut [TreeNode<NameRecord>],
+    puts: &[(u64, u64)],
+    name: u64,
+) -> (Option<u64>, Option<u64>)
+    ensures table { result.0 ≡ last_put nat_eq (taken nat_eq (length records.old) puts.now) name }
+    ensures tree { result.1 ≡ last_put nat_eq (taken nat_eq (length nodes.old) puts.now) name }
+{
+    (
+        look_after(&mut Table::new(records), puts, name),
+        look_after(&mut SearchTree::new(nodes), puts, name),
+    )
 }

@@ -26,7 +26,7 @@ impl Row {
     }
 
     // The number with the index i.
-    pub fn number(self, i: u32) -> u64
+    pub(crate) fn number(self, i: u32) -> u64
         requires { i < count_of self }
         ensures value { result ≡ number_in self i }
     {

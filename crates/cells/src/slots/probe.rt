@@ -1,7 +1,7 @@
 // Looking for a key from its home slot on.
-ghost use Rattle.std.specs.Prelude.{◌≡◌, ◌^◌, ◌<◌};
-ghost use Rattle.cells.specs.Slots.{pairs_in, Sought};
-ghost use Rattle.cells.specs.Probes.{home, visit, Probed, FreeFound};
+ghost use Rattle.std.specs.Prelude.{◌≡◌, ◌<◌, length};
+ghost use Rattle.cells.specs.Slots.{pairs_in, pair_at, Sought};
+ghost use Rattle.cells.specs.Probes.{home, visit, met, Probed, FreeFound};
 
 use super::{Seek, Slots};
 use crate::key::StoreKey;
@@ -25,6 +25,18 @@ fn visit(n: usize, h: usize, d: usize) -> usize
 }
 
 impl<'a, R: Record> Slots<'a, R> {
+    // What a search for a key comes to in a slot; none, if the slot is used by another key.
+    fn meet(&self, i: usize, key: R::Key) -> Option<Seek>
+        requires { i < length self.now.records.now }
+        ensures value { result ≡ met R.Key.PartialEq.eq key i (pair_at (pairs_in R.held self.now) i) }
+    {
+        match self.pair(i) {
+            None => Some(Seek::Free(i)),
+            Some(pair) if pair.0 == key => Some(Seek::Found(i)),
+            Some(_) => None,
+        }
+    }
+
     // What the search for a key comes to. It ends, though all slots may be used.
     pub(crate) fn probe(&self, key: R::Key) -> Seek
         requires { Probed R.Key.PartialEq.eq R.Key.hashed (pairs_in R.held self.now) }
@@ -35,10 +47,8 @@ impl<'a, R: Record> Slots<'a, R> {
         let first = home(n, key.hash());
         for d in 0..n {
             let i = visit(n, first, d);
-            match self.pair(i) {
-                None => return Seek::Free(i),
-                Some(pair) if pair.0 == key => return Seek::Found(i),
-                Some(_) => {}
+            if let Some(seek) = self.meet(i, key) {
+                return seek;
             }
         }
         Seek::Full

@@ -8,7 +8,7 @@ use Rattle.cells.specs.Slots.{used_in, keyed_in, pair_at}
 use Rattle.cells.specs.Walks.{pairs_of, links_in, walk_for}
 use Rattle.cells.proofs.Meant.{used_in-free, put_answer-sought, keyed_in-laid}
 use Rattle.cells.proofs.Walking.{side_used, told_off, some_slot}
-use Rattle.cells.proofs.Ending.{at_fits, answer_at, kept_at, counted_at, sought_free, sought_full, sought_none}
+use Rattle.cells.proofs.Ending.{at_fits, put_at, counted_at, sought_free, sought_full, sought_none}
 use Rattle.cells.proofs.Hanging.{grown_at, grown_off, grown_as}
 use Rattle.cells.proofs.tree.SearchTreeStore.put.Goals as goal
 
@@ -74,81 +74,57 @@ invariant_of-self-then-not-is_full g c =
       grown = grown_as g.R.Key.Ord.cmp c.grow.ensures.laid c.grow.ensures.links c.grow.ensures.used h;
     }
 
-pub returns-in-Some-Off-2-clause-answered : goal.returns-in-Some-Off-2-clause-answered
-returns-in-Some-Off-2-clause-answered g c =
+pub returns-in-Some-Off-2 : goal.returns-in-Some-Off-2
+returns-in-Some-Off-2 g c =
     let k = g.met.R.Key in
     let t = c.args.self.now in
     let xs = pairs_of g.R.Record.held t.slots in
     let w : walk_for g.R.Key.Ord.cmp xs (links_in t.slots) c.args.key ≡ Some (Off c.in-Some-Off.i c.in-Some-Off.side) = cc in
     let m = length-map t.slots.records.now (λ n. g.R.Record.held n.record) in
     let r = leb-true (length t.slots.records.now) t.slots.used (sym c.is_full.ensures.value ∙ c.if-not-is_full.false) in
-    sym (put_answer-sought g.R.Key.PartialEq.eq k.Eq.laws.refl k.StoreKey.exact xs c.args.key Full
-    (sought_full g.R.Key.Ord.cmp g.R.Key.PartialEq.eq k.Ord.matches_eq k.Eq.laws.refl k.StoreKey.exact
-    xs (links_in t.slots) t.slots.used t.grown c.args.key
-    c.in-Some-Off.i c.in-Some-Off.side w (omega arith) t.counted))
+    let s = sought_full g.R.Key.Ord.cmp g.R.Key.PartialEq.eq k.Ord.matches_eq k.Eq.laws.refl k.StoreKey.exact
+    xs (links_in t.slots) t.slots.used t.grown c.args.key c.in-Some-Off.i c.in-Some-Off.side w (omega arith) t.counted in
+    record {
+      answered = sym (put_answer-sought g.R.Key.PartialEq.eq k.Eq.laws.refl k.StoreKey.exact xs c.args.key Full s);
+      kept = keyed_in-laid g.R.Key.PartialEq.eq k.Eq.laws.refl k.StoreKey.exact xs c.args.key c.args.value Full s;
+    }
 
-pub returns-in-Some-Off-2-clause-kept : goal.returns-in-Some-Off-2-clause-kept
-returns-in-Some-Off-2-clause-kept g c =
-    let k = g.met.R.Key in
-    let t = c.args.self.now in
-    let xs = pairs_of g.R.Record.held t.slots in
-    let w : walk_for g.R.Key.Ord.cmp xs (links_in t.slots) c.args.key ≡ Some (Off c.in-Some-Off.i c.in-Some-Off.side) = cc in
-    let m = length-map t.slots.records.now (λ n. g.R.Record.held n.record) in
-    let r = leb-true (length t.slots.records.now) t.slots.used (sym c.is_full.ensures.value ∙ c.if-not-is_full.false) in
-    keyed_in-laid g.R.Key.PartialEq.eq k.Eq.laws.refl k.StoreKey.exact xs c.args.key c.args.value Full
-    (sought_full g.R.Key.Ord.cmp g.R.Key.PartialEq.eq k.Ord.matches_eq k.Eq.laws.refl k.StoreKey.exact
-    xs (links_in t.slots) t.slots.used t.grown c.args.key
-    c.in-Some-Off.i c.in-Some-Off.side w (omega arith) t.counted)
-
-pub returns-in-Some-Off-2-2-clause-answered : goal.returns-in-Some-Off-2-2-clause-answered
-returns-in-Some-Off-2-2-clause-answered g c =
+pub returns-in-Some-Off-2-2 : goal.returns-in-Some-Off-2-2
+returns-in-Some-Off-2-2 g c =
     let k = g.met.R.Key in
     let t = c.args.self.now in
     let xs = pairs_of g.R.Record.held t.slots in
     let w : walk_for g.R.Key.Ord.cmp xs (links_in t.slots) c.args.key ≡ None = search rules in
-    sym (put_answer-sought g.R.Key.PartialEq.eq k.Eq.laws.refl k.StoreKey.exact xs c.args.key Full
-    (sought_none g.R.Key.Ord.cmp g.R.Key.PartialEq.eq k.Ord.matches_eq k.Eq.laws.refl k.StoreKey.exact
-    xs (links_in t.slots) t.slots.used t.grown c.args.key w))
+    let s = sought_none g.R.Key.Ord.cmp g.R.Key.PartialEq.eq k.Ord.matches_eq k.Eq.laws.refl k.StoreKey.exact
+    xs (links_in t.slots) t.slots.used t.grown c.args.key w in
+    record {
+      answered = sym (put_answer-sought g.R.Key.PartialEq.eq k.Eq.laws.refl k.StoreKey.exact xs c.args.key Full s);
+      kept = keyed_in-laid g.R.Key.PartialEq.eq k.Eq.laws.refl k.StoreKey.exact xs c.args.key c.args.value Full s;
+    }
 
-pub returns-in-Some-Off-2-2-clause-kept : goal.returns-in-Some-Off-2-2-clause-kept
-returns-in-Some-Off-2-2-clause-kept g c =
-    let k = g.met.R.Key in
-    let t = c.args.self.now in
-    let xs = pairs_of g.R.Record.held t.slots in
-    let w : walk_for g.R.Key.Ord.cmp xs (links_in t.slots) c.args.key ≡ None = search rules in
-    keyed_in-laid g.R.Key.PartialEq.eq k.Eq.laws.refl k.StoreKey.exact xs c.args.key c.args.value Full
-    (sought_none g.R.Key.Ord.cmp g.R.Key.PartialEq.eq k.Ord.matches_eq k.Eq.laws.refl k.StoreKey.exact
-    xs (links_in t.slots) t.slots.used t.grown c.args.key w)
-
-pub returns-in-Some-At-clause-answered : goal.returns-in-Some-At-clause-answered
-returns-in-Some-At-clause-answered g c =
+pub returns-in-Some-At : goal.returns-in-Some-At
+returns-in-Some-At g c =
     let k = g.met.R.Key in
     let t = c.args.self.now in
     let xs = pairs_of g.R.Record.held t.slots in
     let w : walk_for g.R.Key.Ord.cmp xs (links_in t.slots) c.args.key ≡ Some (At c.in-Some-At.i) = cc in
-    sym (answer_at g.R.Key.Ord.cmp g.R.Key.PartialEq.eq k.Ord.matches_eq k.Eq.laws.refl k.StoreKey.exact
-    xs (links_in t.slots) t.slots.used t.grown c.args.key c.in-Some-At.i w)
+    let s = put_at g.R.Key.Ord.cmp g.R.Key.PartialEq.eq k.Ord.matches_eq k.Eq.laws.refl k.StoreKey.exact
+    xs (links_in t.slots) t.slots.used t.grown c.args.key c.in-Some-At.i c.args.value w in
+    record { answered = sym s.0; kept = ap (keyed_in g.R.Key.PartialEq.eq) c.renew.ensures.laid ∙ s.1 }
 
-pub returns-in-Some-At-clause-kept : goal.returns-in-Some-At-clause-kept
-returns-in-Some-At-clause-kept g c =
-    let k = g.met.R.Key in
-    let t = c.args.self.now in
-    let xs = pairs_of g.R.Record.held t.slots in
-    let w : walk_for g.R.Key.Ord.cmp xs (links_in t.slots) c.args.key ≡ Some (At c.in-Some-At.i) = cc in
-    ap (keyed_in g.R.Key.PartialEq.eq) c.renew.ensures.laid
-    ∙ kept_at g.R.Key.Ord.cmp g.R.Key.PartialEq.eq k.Ord.matches_eq k.Eq.laws.refl k.StoreKey.exact
-    xs (links_in t.slots) t.slots.used t.grown c.args.key c.in-Some-At.i c.args.value w
-
-pub returns-in-Some-Off-clause-kept : goal.returns-in-Some-Off-clause-kept
-returns-in-Some-Off-clause-kept g c =
+pub returns-in-Some-Off : goal.returns-in-Some-Off
+returns-in-Some-Off g c =
     let k = g.met.R.Key in
     let t = c.args.self.now in
     let xs = pairs_of g.R.Record.held t.slots in
     let w : walk_for g.R.Key.Ord.cmp xs (links_in t.slots) c.args.key ≡ Some (Off c.in-Some-Off.i c.in-Some-Off.side) = cc in
     let m = length-map t.slots.records.now (λ n. g.R.Record.held n.record) in
     let r = leb-false (length t.slots.records.now) t.slots.used (sym c.is_full.ensures.value ∙ c.if-not-is_full.true) in
-    ap (keyed_in g.R.Key.PartialEq.eq) c.grow.ensures.laid
-    ∙ keyed_in-laid g.R.Key.PartialEq.eq k.Eq.laws.refl k.StoreKey.exact xs c.args.key c.args.value (Free t.slots.used)
-    (sought_free g.R.Key.Ord.cmp g.R.Key.PartialEq.eq k.Ord.matches_eq k.Eq.laws.refl k.StoreKey.exact
-    xs (links_in t.slots) t.slots.used t.grown c.args.key
-    c.in-Some-Off.i c.in-Some-Off.side w (omega arith))
+    let s = sought_free g.R.Key.Ord.cmp g.R.Key.PartialEq.eq k.Ord.matches_eq k.Eq.laws.refl k.StoreKey.exact
+    xs (links_in t.slots) t.slots.used t.grown c.args.key c.in-Some-Off.i c.in-Some-Off.side w (omega arith) in
+    record {
+      answered = sym (put_answer-sought g.R.Key.PartialEq.eq k.Eq.laws.refl k.StoreKey.exact xs c.args.key (Free t.slots.used) s);
+      kept =
+          ap (keyed_in g.R.Key.PartialEq.eq) c.grow.ensures.laid
+          ∙ keyed_in-laid g.R.Key.PartialEq.eq k.Eq.laws.refl k.StoreKey.exact xs c.args.key c.args.value (Free t.slots.used) s;
+    }
