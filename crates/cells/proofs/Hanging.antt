@@ -301,10 +301,6 @@ links_bare b e ℕ.zero j = refl
 links_bare b e (suc n) ℕ.zero = e
 links_bare b e (suc n) (suc j) = links_bare b e n j
 
-no_link : (side : Side) → link_to side no_links ≡ 0
-no_link Left = refl
-no_link Right = refl
-
 grown_bare : {K V : Type 0} (cmp : K → K → Ordering) (n : ℕ) (ls : List Links) → ((j : ℕ) (s : Side) → link_at ls j s ≡ 0)
     → Grown {V = V} cmp (replicate n None) ls 0
 grown_bare {V} cmp n ls bare = record {
@@ -326,7 +322,7 @@ module _ {R K V : Type 0} (held : R → Option (K × V)) (b : TreeNode R) (free 
       → Grown cmp (map (λ n. held n.record) ns) (map (λ n. n.links) ns) used
   grown_blank cmp used e =
       grown_as cmp pairs (ap (map (λ n. n.links)) blank) e
-      (grown_bare cmp n (map (λ n. n.links) (replicate n b)) (λ j s. ap (link_to s) (links_bare b bare n j) ∙ no_link s))
+      (grown_bare cmp n (map (λ n. n.links) (replicate n b)) (λ j s. ap (link_to s) (links_bare b bare n j) ∙ link_none s))
 
   pub keyed_blank : (same : K → K → Bool) → keyed_in same (map (λ n. held n.record) ns) ≡ none_held n
   keyed_blank same = ap (keyed_in same) pairs ∙ keyed_in-blank same n
