@@ -18,6 +18,10 @@ keyed : {K V : Type 0} (l l₂ n n₂ : ℕ) (f f₂ : K → Option V) → l ≡
     → ◌≡◌ {A = Keyed K V} (record { limit = l; count = n; find = f }) (record { limit = l₂; count = n₂; find = f₂ })
 keyed l l₂ n n₂ f f₂ d e h = cc
 
+-- a record holds what it was made of
+pub held_new : {R P : Type 0} (held : R → Option P) {r made : R} {p : P} → held made ≡ Some p → r ≡ made → held r ≡ Some p
+held_new held h e = ap held e ∙ h
+
 -- blank slots hold nothing
 
 pub pair_at-blank : {P : Type 0} (n i : ℕ) → pair_at {P = P} (replicate n None) i ≡ None

@@ -56,7 +56,11 @@ impl<R: Record> Record for TreeNode<R> {
 
     ghost BLANK = { record { «record» = R.BLANK; links = no_links } };
 
+    ghost made = { λ k v. record { «record» = R.made k v; links = no_links } };
+
     ghost blank = { R.blank };
+
+    ghost holds = { R.holds };
 
     const BLANK: TreeNode<R> = TreeNode {
         record: R::BLANK,

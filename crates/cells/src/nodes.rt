@@ -3,7 +3,7 @@ ghost use Rattle.std.specs.Prelude.{◌≡◌, ◌+◌, ◌<◌, Some, length, m
 ghost use Rattle.cells.specs.Slots.{pair_at};
 ghost use Rattle.cells.specs.Walks.{links_in, pairs_of, link_at, side_of, walk_for, hung, Grown};
 
-use crate::node::{Links, Side, TreeNode};
+use crate::node::{Side, TreeNode};
 use crate::record::Record;
 use crate::slots::Slots;
 use std::cmp::Ordering;
@@ -72,10 +72,7 @@ impl<'a, R: Record> Slots<'a, TreeNode<R>> {
         ensures used { self.new.used ≡ self.old.used + 1 }
     {
         let n = self.used;
-        self.records[n] = TreeNode {
-            record: R::new(key, value),
-            links: Links::NONE,
-        };
+        self.records[n] = TreeNode::new(key, value);
         self.records[i].links = self.records[i].links.with(side, n);
         self.used += 1;
     }

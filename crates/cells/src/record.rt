@@ -15,16 +15,22 @@ pub trait Record: Copy {
 
     ghost BLANK: { Self };
 
+    // What `new` answers.
+    ghost made: { Self.Key → Self.Value → Self };
+
     // A record that holds nothing.
     const BLANK: Self;
 
+    // A record that holds a key with its value.
     fn new(key: Self::Key, value: Self::Value) -> Self
-        ensures holds { held result ≡ Some (key, value) };
+        ensures value { result ≡ made key value };
 
     fn pair(self) -> Option<(Self::Key, Self::Value)>
         ensures value { result ≡ held self };
 
     ghost blank: { held BLANK ≡ None };
+
+    ghost holds: { (k : Self.Key) (v : Self.Value) → held (made k v) ≡ Some (k, v) };
 }
 
 // A record that is just that.
@@ -42,7 +48,11 @@ impl<K: StoreKey, V: Copy> Record for PairRecord<K, V> {
 
     ghost BLANK = { record { pair = None } };
 
+    ghost made = { λ k v. record { pair = Some (k, v) } };
+
     ghost blank = { refl };
+
+    ghost holds = { λ k v. refl };
 
     const BLANK: PairRecord<K, V> = PairRecord { pair: None };
 

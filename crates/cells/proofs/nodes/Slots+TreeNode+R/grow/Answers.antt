@@ -5,6 +5,7 @@ use Rattle.std.proofs.Math.Seq.{map-set_same}
 use Rattle.cells.specs.declared.node.Side.{Side}
 use Rattle.cells.specs.declared.node.TreeNode.{TreeNode}
 use Rattle.cells.specs.Walks.{no_links, with_link, hung}
+use Rattle.cells.proofs.Meant.{held_new}
 use Rattle.cells.proofs.nodes.Slots+TreeNode+R.grow.Goals as goal
 
 pairs_more : {R P : Type 0} (held : R → Option P) (ns : List (TreeNode R)) (u i : ℕ) (n m d : TreeNode R) (p : P)
@@ -26,12 +27,11 @@ links_more ns u i t n m d l k h e =
 
 pub returns-clause-laid : goal.returns-clause-laid
 returns-clause-laid g c =
-    pairs_more g.R.Record.held c.args.self.now.records.now c.args.self.now.used c.args.i
-    record { «record» = c.new.result; links = no_links } _ c.index-self-i-2.result
-    (c.args.key, c.args.value) c.new.ensures.holds refl
+    pairs_more g.R.Record.held c.args.self.now.records.now c.args.self.now.used c.args.i c.new.result _ c.index-self-i-2.result
+    (c.args.key, c.args.value)
+    (held_new (λ n. g.R.Record.held n.record) (g.met.R.Record.holds c.args.key c.args.value) c.new.ensures.value) refl
 
 pub returns-clause-links : goal.returns-clause-links
 returns-clause-links g c =
-    links_more c.args.self.now.records.now c.args.self.now.used c.args.i c.args.side
-    record { «record» = c.new.result; links = no_links } _ c.index-self-i.result
-    c.requires.0 c.requires.1 refl c.with.ensures.value
+    links_more c.args.self.now.records.now c.args.self.now.used c.args.i c.args.side c.new.result _ c.index-self-i.result
+    c.requires.0 c.requires.1 (ap (λ n. n.links) c.new.ensures.value) c.with.ensures.value

@@ -4,6 +4,7 @@ use Rattle.std.proofs.lemmas.Bool.{ltb-false}
 use Rattle.std.proofs.lemmas.List.{map-set}
 use Rattle.std.proofs.Math.Seq.{map-set_same}
 use Rattle.cells.specs.declared.node.TreeNode.{TreeNode}
+use Rattle.cells.proofs.Meant.{held_new}
 use Rattle.cells.proofs.nodes.Slots+TreeNode+R.renew.Goals.{then-is_none, else-is_none}
 use Rattle.cells.proofs.nodes.Slots+TreeNode+R.renew.Goals as goal
 
@@ -29,7 +30,8 @@ returns-clause-laid g c =
     (elim c.if-is_none.branch [
       | then-is_none w ↦ ap (λ s. s.records.now) w.self-is
       | else-is_none w ↦ ap (λ s. s.records.now) w.self-is
-    ]) c.args.i _ (c.args.key, c.args.value) c.new.ensures.holds
+    ]) c.args.i _ (c.args.key, c.args.value)
+    (held_new g.R.Record.held (g.met.R.Record.holds c.args.key c.args.value) c.new.ensures.value)
 
 pub returns-clause-links : goal.returns-clause-links
 returns-clause-links g c =

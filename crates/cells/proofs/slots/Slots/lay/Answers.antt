@@ -3,7 +3,7 @@ use Rattle.std.proofs.Common.{rules, ◌≡◌, ◌+◌, ◌<◌, ◌∙◌, sym
 use Rattle.std.proofs.lemmas.List.{length-map, map-set}
 use Rattle.cells.specs.declared.slots.Seek.TheVariants.{Found, Free, Full}
 use Rattle.cells.specs.Slots.{pairs_in, used_in, Sought, laid}
-use Rattle.cells.proofs.Meant.{used_in-free, used_in-again, used_in-room, only_pair, answered_by, meant_after_laid}
+use Rattle.cells.proofs.Meant.{held_new, used_in-free, used_in-again, used_in-room, only_pair, answered_by, meant_after_laid}
 use Rattle.cells.proofs.slots.Slots.lay.Goals as goal
 
 pub overflow_add-self : goal.overflow_add-self
@@ -27,7 +27,7 @@ returns-in-Full-clause-kept g c =
 pub returns-in-Found-clause-laid : goal.returns-in-Found-clause-laid
 returns-in-Found-clause-laid g c =
     let xs = pairs_in g.R.Record.held c.args.self.now in
-    map-set g.R.Record.held c.args.self.now.records.now c.in-Found.i c.new.result ∙ ap (set xs c.in-Found.i) c.new.ensures.holds
+    map-set g.R.Record.held c.args.self.now.records.now c.in-Found.i c.new.result ∙ ap (set xs c.in-Found.i) (held_new g.R.Record.held (g.met.R.Record.holds c.args.key c.args.value) c.new.ensures.value)
     ∙ sym (ap (λ s. laid s (c.args.key, c.args.value) xs) c.in-Found.is)
 
 pub returns-in-Found-clause-counted : goal.returns-in-Found-clause-counted
@@ -51,7 +51,7 @@ returns-in-Found-clause-kept g c =
 pub returns-in-Free-clause-laid : goal.returns-in-Free-clause-laid
 returns-in-Free-clause-laid g c =
     let xs = pairs_in g.R.Record.held c.args.self.now in
-    map-set g.R.Record.held c.args.self.now.records.now c.in-Free.i c.new-in-Free.result ∙ ap (set xs c.in-Free.i) c.new-in-Free.ensures.holds
+    map-set g.R.Record.held c.args.self.now.records.now c.in-Free.i c.new-in-Free.result ∙ ap (set xs c.in-Free.i) (held_new g.R.Record.held (g.met.R.Record.holds c.args.key c.args.value) c.new-in-Free.ensures.value)
     ∙ sym (ap (λ s. laid s (c.args.key, c.args.value) xs) c.in-Free.is)
 
 pub returns-in-Free-clause-counted : goal.returns-in-Free-clause-counted
