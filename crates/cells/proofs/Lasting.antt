@@ -7,7 +7,7 @@ use Rattle.std.proofs.Common.{◌≡◌, ℕ, suc, ◌+◌, ◌<◌, ◌≤◌, 
 use Rattle.model.specs.Lists.{some_or}
 use Rattle.model.specs.Parts.{Keyed, none_held, no_room}
 use Rattle.cells.specs.Stores.{after_put}
-use Rattle.cells.specs.Puts.{named, keys_named, refused, taken_after, taken, last_put, meant_after}
+use Rattle.cells.specs.Puts.{named, keys_named, put_refused, taken_on, puts_taken, last_put, meant_after}
 
 module _ {K V : Type 0} (same : K → K → Bool) (n : ℕ) where
   -- what a store of n records means that took the puts
@@ -16,7 +16,7 @@ module _ {K V : Type 0} (same : K → K → Bool) (n : ℕ) where
 
   -- the puts with one more, if it is not refused
   abbrev one_more : List (K × V) → K × V → List (K × V)
-  one_more past p = cond (refused same n past p.0) past (p ∷ past)
+  one_more past p = cond (put_refused same n past p.0) past (p ∷ past)
 
   -- a key that some put is for has a value, and no other has
   put_named : {A : Type 0} (f : V → A) (a b : A) → ((v : V) → f v ≡ a) → (past : List (K × V)) (key : K)
@@ -31,7 +31,7 @@ module _ {K V : Type 0} (same : K → K → Bool) (n : ℕ) where
 
   -- a put is refused where there is no room for its key, and else counts its key if that is new
 
-  pub room_told : (past : List (K × V)) (key : K) → no_room (meant_of past) key ≡ refused same n past key
+  pub room_told : (past : List (K × V)) (key : K) → no_room (meant_of past) key ≡ put_refused same n past key
   room_told past key = put_named (λ v. false) false (nat_le n (keys_named same past)) (λ v. refl) past key ∙ go (named same past key)
     where
       go : (t : Bool) → cond t false (nat_le n (keys_named same past)) ≡ (not t && nat_le n (keys_named same past))
@@ -46,9 +46,9 @@ module _ {K V : Type 0} (same : K → K → Bool) (n : ℕ) where
       go false = refl
 
   pub put_one : (past : List (K × V)) (p : K × V) → after_put same (meant_of past) p.0 p.1 ≡ meant_of (one_more past p)
-  put_one past p = go (refused same n past p.0) refl
+  put_one past p = go (put_refused same n past p.0) refl
     where
-      go : (t : Bool) → refused same n past p.0 ≡ t → after_put same (meant_of past) p.0 p.1 ≡ meant_of (one_more past p)
+      go : (t : Bool) → put_refused same n past p.0 ≡ t → after_put same (meant_of past) p.0 p.1 ≡ meant_of (one_more past p)
       go true e = cond-true _ _ _ (room_told past p.0 ∙ e) ∙ ap meant_of (sym (cond-true _ past (p ∷ past) e))
       go false e =
           cond-false _ _ _ (room_told past p.0 ∙ e)
@@ -60,7 +60,7 @@ module _ {K V : Type 0} (same : K → K → Bool) (n : ℕ) where
     pub record Left (m : Keyed K V) (i : ℕ) : Type 0 where
       pub past : List (K × V)
       pub means : m ≡ meant_of past
-      pub leads : taken_after same n past (drop i puts) ≡ taken same n puts
+      pub leads : taken_on same n past (drop i puts) ≡ puts_taken same n puts
 
     pub left-none : (m : Keyed K V) → m ≡ none_held n → Left m 0
     left-none m e = record { past = []; means = e; leads = refl }
@@ -74,12 +74,12 @@ module _ {K V : Type 0} (same : K → K → Bool) (n : ℕ) where
           past = one_more w.past p;
           means = e ∙ ap (λ z. after_put same z p.0 p.1) w.means ∙ put_one w.past p;
           leads =
-              ap (λ j. taken_after same n (one_more w.past p) (drop j puts)) next ∙ sym (ap (taken_after same n w.past) first) ∙ w.leads;
+              ap (λ j. taken_on same n (one_more w.past p) (drop j puts)) next ∙ sym (ap (taken_on same n w.past) first) ∙ w.leads;
         }
 
     pub left-all : (m : Keyed K V) (i : ℕ) → length puts ≤ i → Left m i → m ≡ meant_after same n puts
     left-all m i l w =
-        w.means ∙ ap meant_of (sym (ap (taken_after same n w.past) (drop_all i puts l)) ∙ w.leads)
+        w.means ∙ ap meant_of (sym (ap (taken_on same n w.past) (drop_all i puts l)) ∙ w.leads)
 
   one_named : (past : List (K × V)) (p : K × V) → keys_named same past ≤ keys_named same (p ∷ past)
   one_named past p = go (named same past p.0)
@@ -93,20 +93,20 @@ module _ {K V : Type 0} (same : K → K → Bool) (n : ℕ) where
   fewer_named past [] = omega arith
   fewer_named past (p ∷ ps) = let a = one_named past p in let b = fewer_named (p ∷ past) ps in omega (arith, a, b)
 
-  room_named : (past : List (K × V)) (p : K × V) → keys_named same (p ∷ past) ≤ n → refused same n past p.0 ≡ false
+  room_named : (past : List (K × V)) (p : K × V) → keys_named same (p ∷ past) ≤ n → put_refused same n past p.0 ≡ false
   room_named past p l = go (named same past p.0) l
     where
       go : (t : Bool) → cond t (keys_named same past) (keys_named same past + 1) ≤ n → (not t && nat_le n (keys_named same past)) ≡ false
       go true l = refl
       go false l = lt-leb n (keys_named same past) (omega (arith, l))
 
-  all_onto : (past ps : List (K × V)) → keys_named same (reverse_aux ps past) ≤ n → taken_after same n past ps ≡ reverse_aux ps past
+  all_onto : (past ps : List (K × V)) → keys_named same (reverse_aux ps past) ≤ n → taken_on same n past ps ≡ reverse_aux ps past
   all_onto past [] l = refl
   all_onto past (p ∷ ps) l =
       let r = fewer_named (p ∷ past) ps in
-      let free : refused same n past p.0 ≡ false = room_named past p (omega (arith, r, l)) in
-      ap (λ z. taken_after same n z ps) (cond-false (refused same n past p.0) past (p ∷ past) free) ∙ all_onto (p ∷ past) ps l
+      let free : put_refused same n past p.0 ≡ false = room_named past p (omega (arith, r, l)) in
+      ap (λ z. taken_on same n z ps) (cond-false (put_refused same n past p.0) past (p ∷ past) free) ∙ all_onto (p ∷ past) ps l
 
   -- where there is room for all keys, every put is taken
-  pub all_taken : (ps : List (K × V)) → keys_named same (reverse ps) ≤ n → taken same n ps ≡ reverse ps
+  pub all_taken : (ps : List (K × V)) → keys_named same (reverse ps) ≤ n → puts_taken same n ps ≡ reverse ps
   all_taken ps l = all_onto [] ps l

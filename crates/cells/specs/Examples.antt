@@ -7,7 +7,7 @@ use Rattle.cells.specs.declared.fault.CellFault.TheVariants.{NoRoom}
 use Rattle.cells.specs.Faults.{number_of, layer_of}
 use Rattle.cells.specs.Keys.{number_hash, cell_hash}
 use Rattle.cells.specs.Stores.{put_answer, after_put}
-use Rattle.cells.specs.Puts.{keys_named, taken, last_put, meant_after}
+use Rattle.cells.specs.Puts.{keys_named, puts_taken, last_put, meant_after}
 use Rattle.cells.specs.Probes.{home}
 
 -- a store of so many records: empty, and with the value 7 put for the key 1
@@ -39,10 +39,10 @@ three = (1, 7) ∷ (2, 8) ∷ (1, 9) ∷ []
 
 abbrev pub ListsShown : Type 0
 ListsShown =
-    (taken nat_eq 1 three ≡ (1, 9) ∷ (1, 7) ∷ []) × (taken nat_eq 2 three ≡ (1, 9) ∷ (2, 8) ∷ (1, 7) ∷ [])
-    × (taken nat_eq 0 three ≡ []) × (keys_named nat_eq (taken nat_eq 2 three) ≡ 2)
+    (puts_taken nat_eq 1 three ≡ (1, 9) ∷ (1, 7) ∷ []) × (puts_taken nat_eq 2 three ≡ (1, 9) ∷ (2, 8) ∷ (1, 7) ∷ [])
+    × (puts_taken nat_eq 0 three ≡ []) × (keys_named nat_eq (puts_taken nat_eq 2 three) ≡ 2)
     × ((meant_after nat_eq 1 three).find 1 ≡ Some 9) × ((meant_after nat_eq 1 three).find 2 ≡ None)
-    × ((meant_after nat_eq 1 three).count ≡ 1) × (last_put nat_eq (taken nat_eq 2 three) 2 ≡ Some 8)
+    × ((meant_after nat_eq 1 three).count ≡ 1) × (last_put nat_eq (puts_taken nat_eq 2 three) 2 ≡ Some 8)
 
 -- whether no two of the numbers are less than n apart
 abbrev pub apart : ℕ → List ℕ → Bool
@@ -58,5 +58,5 @@ abbrev pub HomesApart : Type 0
 HomesApart =
     (apart 21 (homes number_hash (λ i. i)) ≡ true)
     × (apart 11 (homes cell_hash (λ i. record { mailbox = 5; block = i })) ≡ true)
-    × (apart 19 (homes cell_hash (λ i. record { mailbox = i; block = 5 })) ≡ true)
+    × (apart 20 (homes cell_hash (λ i. record { mailbox = i; block = 5 })) ≡ true)
     × (apart 11 (homes cell_hash (λ i. record { mailbox = i / 8; block = i % 8 })) ≡ true)

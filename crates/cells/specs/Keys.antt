@@ -1,5 +1,5 @@
 -- The hashes of keys. Each is a number below 2^64, to be read as a part of 2^64.
-use Rattle.std.specs.Prelude.{ℕ, ◌+◌, ◌*◌, ◌%◌, ◌^◌, ◌<◌}
+use Rattle.std.specs.Prelude.{◌≡◌, ℕ, ◌+◌, ◌*◌, ◌%◌, ◌^◌, ◌<◌}
 use Rattle.std.proofs.Common.{arith}
 use Rattle.model.specs.declared.Cell.{Cell}
 
@@ -12,6 +12,22 @@ number_hash n = n * 11400714819323198485 % 2 ^ 64
 -- mailboxes that are in a row, or their blocks, or both
 abbrev pub cell_hash : Cell → ℕ
 cell_hash c = (c.mailbox * 13925035116211876495 + c.block * 10511698010929265437) % 2 ^ 64
+
+-- no two numbers have one hash
+abbrev pub NumbersDiffer : Type 0
+NumbersDiffer = (a b : ℕ) → a < 2 ^ 64 → b < 2 ^ 64 → number_hash a ≡ number_hash b → a ≡ b
+
+-- nor have two blocks of one mailbox
+abbrev pub BlocksDiffer : Type 0
+BlocksDiffer =
+    (m a b : ℕ) → a < 2 ^ 64 → b < 2 ^ 64
+    → cell_hash (record { mailbox = m; block = a }) ≡ cell_hash (record { mailbox = m; block = b }) → a ≡ b
+
+-- nor has one block of two mailboxes
+abbrev pub MailboxesDiffer : Type 0
+MailboxesDiffer =
+    (a b n : ℕ) → a < 2 ^ 64 → b < 2 ^ 64
+    → cell_hash (record { mailbox = a; block = n }) ≡ cell_hash (record { mailbox = b; block = n }) → a ≡ b
 
 -- both are below 2^64
 

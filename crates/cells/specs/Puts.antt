@@ -14,18 +14,18 @@ module _ {K V : Type 0} (same : K → K → Bool) where
   keys_named [] = 0
   keys_named (p ∷ ps) = cond (named ps p.0) (keys_named ps) (keys_named ps + 1)
 
-  -- a store of n records that took the puts refuses one for the key: it is new to them, and they are for n keys
-  abbrev pub refused : ℕ → List (K × V) → K → Bool
-  refused n ps key = not (named ps key) && nat_le n (keys_named ps)
+  -- a store of n records that took the puts refuses one for the key: it is new to them, and they are for n keys or more
+  abbrev pub put_refused : ℕ → List (K × V) → K → Bool
+  put_refused n ps key = not (named ps key) && nat_le n (keys_named ps)
 
   -- the puts that are taken, the latest first: those of a list, in turn, after those that were taken before
-  abbrev pub taken_after : ℕ → List (K × V) → List (K × V) → List (K × V)
-  taken_after n past [] = past
-  taken_after n past (p ∷ ps) = taken_after n (cond (refused n past p.0) past (p ∷ past)) ps
+  abbrev pub taken_on : ℕ → List (K × V) → List (K × V) → List (K × V)
+  taken_on n past [] = past
+  taken_on n past (p ∷ ps) = taken_on n (cond (put_refused n past p.0) past (p ∷ past)) ps
 
   -- the puts of a list that a store of n records takes, from empty on
-  abbrev pub taken : ℕ → List (K × V) → List (K × V)
-  taken n ps = taken_after n [] ps
+  abbrev pub puts_taken : ℕ → List (K × V) → List (K × V)
+  puts_taken n ps = taken_on n [] ps
 
   -- the value that was put last for a key, of puts with the latest first
   abbrev pub last_put : List (K × V) → K → Option V
@@ -34,4 +34,4 @@ module _ {K V : Type 0} (same : K → K → Bool) where
 
   -- what a store of n records means after the puts, from empty on
   abbrev pub meant_after : ℕ → List (K × V) → Keyed K V
-  meant_after n ps = record { limit = n; count = keys_named (taken n ps); find = last_put (taken n ps) }
+  meant_after n ps = record { limit = n; count = keys_named (puts_taken n ps); find = last_put (puts_taken n ps) }

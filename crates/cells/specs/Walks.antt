@@ -61,8 +61,8 @@ module _ {K V : Type 0} (cmp : K → K → Ordering) where
   side_of key None = None
   side_of key (Some p) = side_by (cmp key p.0)
 
-  -- the walk for a key from the slot i on, over f slots at most: it ends at the key's own slot, or at the side of one where no link
-  -- leads on
+  -- the walk for a key from the slot i on: it ends at a slot that is the key's own or is free, or at the side of one where no link
+  -- leads on; or nowhere, after f slots
   abbrev pub walk : Pairs K V → List Links → ℕ → K → ℕ → Option Stop
   walk xs ls ℕ.zero key i = None
   walk xs ls (suc f) key i =

@@ -6,7 +6,7 @@ use model::Layer;
 
 #[derive(Clone, Copy, PartialEq, Eq, Debug)]
 pub enum CellFault {
-    // the key is not held, and every record is used
+    // the key is not held, and every record is used; who keeps names asks `is_full` first, and refuses by 9
     NoRoom = 18,
 }
 

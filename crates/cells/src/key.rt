@@ -3,10 +3,11 @@ ghost use Rattle.std.specs.Prelude.{◌≡◌, ℕ, ◌^◌, ◌<◌, T};
 ghost use Rattle.std.proofs.Common.{eqb→eq};
 ghost use Rattle.model.specs.Mailboxes.{same_cell_is};
 ghost use Rattle.cells.specs.Keys.{number_hash, number_hash_small, cell_hash, cell_hash_small};
+ghost use Rattle.cells.specs.Keys.{NumbersDiffer, BlocksDiffer, MailboxesDiffer};
 
 use model::Cell;
 
-// A key: equal keys are one and the same, keys have an order, and a hash spreads them.
+// A key: equal keys are one and the same, keys have an order, and each has a hash.
 pub trait StoreKey: Ord + Copy {
     // What `hash` answers.
     ghost hashed: { Self → ℕ };
@@ -52,3 +53,10 @@ impl StoreKey for Cell {
             .wrapping_add(self.block.wrapping_mul(PLASTIC_SQUARED))
     }
 }
+
+// The laws of hashes. It computes nothing: its contract names them.
+pub fn hashes_differ()
+    ensures numbers { NumbersDiffer }
+    ensures blocks { BlocksDiffer }
+    ensures mailboxes { MailboxesDiffer }
+{}

@@ -13,7 +13,7 @@ mod table;
 mod tree;
 
 pub use fault::CellFault;
-pub use key::StoreKey;
+pub use key::{StoreKey, hashes_differ};
 pub use node::TreeNode;
 pub use puts::{examples_hold, look_after};
 pub use record::{CellRecord, NameRecord, PairRecord, Record};

@@ -31,7 +31,7 @@ impl<'a, R: Record> Slots<'a, TreeNode<R>> {
         }
     }
 
-    // Walks from the root towards a key; none, if there is no slot at all.
+    // Walks from the root towards a key. The walk of a tree ends somewhere, unless there is no slot at all.
     pub(crate) fn descend(&self, key: R::Key) -> Option<Stop>
         requires { Grown R.Key.cmp (pairs_of R.held self.now) (links_in self.now) self.now.used }
         ensures walked { result ≡ walk_for R.Key.cmp (pairs_of R.held self.now) (links_in self.now) key }
@@ -50,7 +50,7 @@ impl<'a, R: Record> Slots<'a, TreeNode<R>> {
         Some(Stop::At(i))
     }
 
-    // Gives a slot a key and its value, and leaves its links.
+    // Gives a slot a key and its value, and leaves its links; a slot that was free is used from then on.
     pub(crate) fn renew(&mut self, i: usize, key: R::Key, value: R::Value)
         requires within { i < length self.old.records.now }
         requires filled { is_some (pair_at (pairs_of R.held self.old) i) ≡ nat_lt i self.old.used }

@@ -1,6 +1,6 @@
 // Lists of puts, on any store.
 ghost use Rattle.std.specs.Prelude.{◌≡◌, ◌≤◌, reverse};
-ghost use Rattle.cells.specs.Puts.{keys_named, taken, last_put, meant_after};
+ghost use Rattle.cells.specs.Puts.{keys_named, puts_taken, last_put, meant_after};
 ghost use Rattle.cells.specs.Examples.{AnswersShown, PutsShown, ListsShown, HomesApart};
 
 use crate::store::Store;
@@ -22,7 +22,7 @@ pub fn look_after<S: Store>(
     puts: &[(S::Key, S::Value)],
     key: S::Key,
 ) -> Option<S::Value>
-    ensures last { result ≡ last_put S.Key.PartialEq.eq (taken S.Key.PartialEq.eq (S.meaning store.old).limit puts.now) key }
+    ensures last { result ≡ last_put S.Key.PartialEq.eq (puts_taken S.Key.PartialEq.eq (S.meaning store.old).limit puts.now) key }
     ensures kept { S.meaning store.new ≡ meant_after S.Key.PartialEq.eq (S.meaning store.old).limit puts.now }
     ensures roomy { keys_named S.Key.PartialEq.eq (reverse puts.now) ≤ (S.meaning store.old).limit
         → result ≡ last_put S.Key.PartialEq.eq (reverse puts.now) key }

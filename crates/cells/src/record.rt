@@ -67,8 +67,8 @@ impl<K: StoreKey, V: Copy> Record for PairRecord<K, V> {
     }
 }
 
-// A cell's history.
+// A record of a cell's history.
 pub type CellRecord = PairRecord<Cell, History>;
 
-// The number that an order keeper gave a task, by the task's name.
+// A record of the number that an order keeper gave a task, by the task's name.
 pub type NameRecord = PairRecord<u64, u64>;

@@ -12,7 +12,8 @@ pub trait Store {
 
     type Value: Copy;
 
-    // How many keys it may hold, how many it holds, and which value each has.
+    // How many keys it may hold, how many it holds, and which value each has. From a new store of this crate on, or once any is
+    // emptied, the calls keep the count to the keys.
     ghost meaning: { Self → Keyed Self.Key Self.Value };
 
     // Forgets all keys.
@@ -23,9 +24,16 @@ pub trait Store {
     fn count(&self) -> usize
         ensures value { result ≡ (meaning self.now).count };
 
+    // How many keys may be held.
+    fn limit(&self) -> usize
+        ensures value { result ≡ (meaning self.now).limit };
+
     // Whether as many keys are held as may be.
-    fn is_full(&self) -> bool
-        ensures value { result ≡ nat_le (meaning self.now).limit (meaning self.now).count };
+    final fn is_full(&self) -> bool
+        ensures value { result ≡ nat_le (meaning self.now).limit (meaning self.now).count }
+    {
+        self.count() >= self.limit()
+    }
 
     // The value of a key, if it is held.
     fn look(&self, key: Self::Key) -> Option<Self::Value>

@@ -1,4 +1,5 @@
-// A store that probes: each key stands in its home slot, or in the first slot after it that was free.
+// A store that probes: each key stands in its home slot, or in the first slot after it that was free. The fuller the table is, the
+// more slots a search for a key that is not held visits; in a full one it visits all.
 ghost use Rattle.std.specs.Prelude.{◌≡◌, length};
 ghost use Rattle.cells.specs.Slots.{pairs_in, used_in};
 ghost use Rattle.cells.specs.Probes.{Probed, probed_prop};
@@ -46,8 +47,8 @@ impl<'a, R: Record> Store for Table<'a, R> {
         self.slots.used
     }
 
-    fn is_full(&self) -> bool {
-        self.slots.is_full()
+    fn limit(&self) -> usize {
+        self.slots.records.len()
     }
 
     fn look(&self, key: R::Key) -> Option<R::Value> {

@@ -1,4 +1,5 @@
-// A store that is a binary search tree: smaller keys hang on the left of a key, and larger ones on its right.
+// A store that is a binary search tree: smaller keys hang on the left of a key, and larger ones on its right. It is not kept in
+// balance: keys that come in order make it a list.
 ghost use Rattle.std.specs.Prelude.{◌≡◌, length};
 ghost use Rattle.cells.specs.Slots.{used_in};
 ghost use Rattle.cells.specs.Walks.{pairs_of, links_in, Grown, grown_prop};
@@ -48,8 +49,8 @@ impl<'a, R: Record> Store for SearchTree<'a, R> {
         self.slots.used
     }
 
-    fn is_full(&self) -> bool {
-        self.slots.is_full()
+    fn limit(&self) -> usize {
+        self.slots.records.len()
     }
 
     fn look(&self, key: R::Key) -> Option<R::Value> {

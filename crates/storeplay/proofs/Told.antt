@@ -4,7 +4,7 @@ use Rattle.model.specs.Parts.{Keyed, no_room}
 use Rattle.cells.specs.declared.fault.CellFault.{CellFault}
 use Rattle.cells.specs.declared.fault.CellFault.TheVariants.{NoRoom}
 use Rattle.cells.specs.Stores.{put_answer, after_put}
-use Rattle.cells.specs.Puts.{refused}
+use Rattle.cells.specs.Puts.{put_refused}
 use Rattle.cells.proofs.Lasting.{meant_of, put_one, room_told}
 use Rattle.storeplay.specs.declared.row.Row.{Row}
 use Rattle.storeplay.specs.declared.tally.Tally.{Tally}
@@ -22,7 +22,7 @@ module _ {K V : Type 0} (same : K → K → Bool) (key : ℕ → K) (value : ℕ
       f ∙ ap (λ q. after_put same m q v) a ∙ ap (after_put same m (key (number_in row i))) b
       ∙ ap (λ q. after_put same q (put_of i).0 (put_of i).1) e ∙ put_one same n (past same key value n row i) (put_of i) ∙ next i
     where
-      next : (i : ℕ) → meant_of same n (cond (refused same n (past same key value n row i) (put_of i).0) (past same key value n row i) (put_of i ∷ past same key value n row i))
+      next : (i : ℕ) → meant_of same n (cond (put_refused same n (past same key value n row i) (put_of i).0) (past same key value n row i) (put_of i ∷ past same key value n row i))
           ≡ meant same key value n row (i + 1)
       next i = ap (meant same key value n row) (sym (add-one i))
 
@@ -38,10 +38,10 @@ module _ {K V : Type 0} (same : K → K → Bool) (key : ℕ → K) (value : ℕ
       → m ≡ meant same key value n row i → r ≡ put_answer m k → t ≡ puts_told same key value n row i o → u ≡ put_told (is_err r) t
       → u ≡ puts_told same key value n row (i + 1) o
   told_more i m k r t u o a e f g h =
-      let told : is_err r ≡ refused same n (past same key value n row i) (put_of i).0 =
+      let told : is_err r ≡ put_refused same n (past same key value n row i) (put_of i).0 =
       ap is_err f ∙ refused_told m k ∙ ap (λ q. no_room q k) e ∙ ap (no_room (meant same key value n row i)) a
       ∙ room_told same n (past same key value n row i) (put_of i).0 in
-      h ∙ ap (λ b. put_told b t) told ∙ ap (put_told (refused same n (past same key value n row i) (put_of i).0)) g
+      h ∙ ap (λ b. put_told b t) told ∙ ap (put_told (put_refused same n (past same key value n row i) (put_of i).0)) g
       ∙ ap (λ j. puts_told same key value n row j o) (sym (add-one i))
 
 pub looks_more : {K V : Type 0} (key : ℕ → K) (told : V → ℕ) (find : K → Option V) (j : ℕ) (t u o : Tally) (x : Option ℕ)

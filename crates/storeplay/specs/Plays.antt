@@ -2,7 +2,7 @@
 -- make a key and a value of a number, and `told` tells the number of a value; `same` tells whether two keys are one.
 use Rattle.std.specs.Prelude.{ℕ, suc, ◌*◌, Bool, cond, List, [], ◌∷◌, nat_le, Option, option_map}
 use Rattle.model.specs.Parts.{Keyed}
-use Rattle.cells.specs.Puts.{refused, keys_named, last_put}
+use Rattle.cells.specs.Puts.{put_refused, keys_named, last_put}
 use Rattle.storeplay.specs.declared.row.Row.{Row}
 use Rattle.storeplay.specs.declared.tally.Tally.{Tally}
 use Rattle.storeplay.specs.Rows.{count_of, number_in}
@@ -14,7 +14,7 @@ module _ {K V : Type 0} (same : K → K → Bool) (key : ℕ → K) (value : ℕ
   past ℕ.zero = []
   past (suc i) =
       let k = key (number_in row i) in
-      cond (refused same n (past i) k) (past i) ((k, value i) ∷ past i)
+      cond (put_refused same n (past i) k) (past i) ((k, value i) ∷ past i)
 
   -- what the store means after these
   abbrev pub meant : ℕ → Keyed K V
@@ -23,7 +23,7 @@ module _ {K V : Type 0} (same : K → K → Bool) (key : ℕ → K) (value : ℕ
   -- what the first i puts are answered
   abbrev pub puts_told : ℕ → Tally → Tally
   puts_told ℕ.zero t = t
-  puts_told (suc i) t = put_told (refused same n (past i) (key (number_in row i))) (puts_told i t)
+  puts_told (suc i) t = put_told (put_refused same n (past i) (key (number_in row i))) (puts_told i t)
 
 -- what looks at the numbers below j find
 abbrev pub looks_told : {K V : Type 0} → (ℕ → K) → (V → ℕ) → (K → Option V) → ℕ → Tally → Tally

@@ -6,7 +6,7 @@ use Rattle.storeplay.specs.declared.tally.Tallies.{Tallies}
 
 -- nothing is answered yet
 abbrev pub blank : Tally
-blank = record { puts = 0; refused = 0; held = 0; found = 0; digest = 0 }
+blank = record { puts = 0; refused = 0; held = 0; found = 0; digest = 1 }
 
 -- a count and one more, in 64 bits
 abbrev pub one_more : ℕ → ℕ

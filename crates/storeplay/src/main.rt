@@ -12,6 +12,9 @@ use play::{look_both, play_both};
 use row::Row;
 use std::io;
 
+// How many records each store has at most. They are lent again for each row, with what the last one left in them.
+const RECORDS: usize = 20_000;
+
 // Rows of numbers, each with how many records it has.
 const ROWS: [(Row, usize); 7] = [
     (Row::Rising(5_000), 5_000),
@@ -27,7 +30,7 @@ const ROWS: [(Row, usize); 7] = [
 const PUTS: [(u64, u64); 3] = [(1, 7), (2, 8), (1, 9)];
 
 // What keys that share one home slot are played with.
-const CLASHING: (Row, usize) = (Row::Any(3_000), 2_000);
+const CLASHING: (Row, usize) = (Row::Any(3_000), 1_500);
 
 fn main(rt: HostRuntime) -> io::Result<()> {
     let alloc = rt.alloc();
@@ -37,22 +40,22 @@ fn main(rt: HostRuntime) -> io::Result<()> {
         let (table, tree) = look_both(records.as_mut_slice(), nodes.as_mut_slice(), &PUTS, name);
         println!(rt; "one record, name {name}: {table:?} in the table, {tree:?} in the tree")?;
     }
+    let mut records = vec![in alloc; NameRecord::BLANK; RECORDS]?;
+    let mut nodes = vec![in alloc; TreeNode::<NameRecord>::BLANK; RECORDS]?;
     for (row, lent) in ROWS {
-        let mut records = vec![in alloc; NameRecord::BLANK; lent]?;
-        let mut nodes = vec![in alloc; TreeNode::<NameRecord>::BLANK; lent]?;
-        let tallies = play_both(records.as_mut_slice(), nodes.as_mut_slice(), row);
+        let tallies = play_both(records.as_mut_slice(), nodes.as_mut_slice(), lent, row);
         println!(rt; "names, {row}, {lent} records: {tallies}")?;
     }
+    let mut records = vec![in alloc; CellRecord::BLANK; RECORDS]?;
+    let mut nodes = vec![in alloc; TreeNode::<CellRecord>::BLANK; RECORDS]?;
     for (row, lent) in ROWS {
-        let mut records = vec![in alloc; CellRecord::BLANK; lent]?;
-        let mut nodes = vec![in alloc; TreeNode::<CellRecord>::BLANK; lent]?;
-        let tallies = play_both(records.as_mut_slice(), nodes.as_mut_slice(), row);
+        let tallies = play_both(records.as_mut_slice(), nodes.as_mut_slice(), lent, row);
         println!(rt; "cells, {row}, {lent} records: {tallies}")?;
     }
     let (row, lent) = CLASHING;
     let mut records = vec![in alloc; PairRecord::<OneHome, u64>::BLANK; lent]?;
     let mut nodes = vec![in alloc; TreeNode::<PairRecord<OneHome, u64>>::BLANK; lent]?;
-    let tallies = play_both(records.as_mut_slice(), nodes.as_mut_slice(), row);
+    let tallies = play_both(records.as_mut_slice(), nodes.as_mut_slice(), lent, row);
     println!(rt; "keys of one home slot, {row}, {lent} records: {tallies}")?;
     Ok(())
 }

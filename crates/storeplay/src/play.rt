@@ -1,6 +1,6 @@
 // Rows of numbers, played on any store, and on both.
-ghost use Rattle.std.specs.Prelude.{◌≡◌, ◌*◌, length, nat_eq};
-ghost use Rattle.cells.specs.Puts.{taken, last_put};
+ghost use Rattle.std.specs.Prelude.{◌≡◌, ◌*◌, length, min, nat_eq};
+ghost use Rattle.cells.specs.Puts.{puts_taken, last_put};
 ghost use Rattle.storeplay.specs.Rows.{count_of};
 ghost use Rattle.storeplay.specs.Tallies.{blank};
 ghost use Rattle.storeplay.specs.Plays.{meant, puts_told, looks_told, played};
@@ -57,20 +57,45 @@ fn play<K: StoreKey + FromNumber, V: Numbered + Copy, S: Store<Key = K, Value = 
     play_looks(store, 2 * u64::from(row.count()), tally);
 }
 
-// Plays the row on both stores.
+// Plays the row on a table over the records.
+fn play_table<K: StoreKey + FromNumber, V: Numbered + Copy, R: Record<Key = K, Value = V>>(
+    records: &mut [R],
+    row: Row,
+    tally: &mut Tally,
+)
+    ensures told { tally.new ≡ played K.PartialEq.eq K.made V.made V.told (length records.old) row tally.old }
+{
+    play(&mut Table::new(records), row, tally);
+}
+
+// Plays the row on a search tree over the nodes.
+fn play_tree<K: StoreKey + FromNumber, V: Numbered + Copy, R: Record<Key = K, Value = V>>(
+    nodes: &mut [TreeNode<R>],
+    row: Row,
+    tally: &mut Tally,
+)
+    ensures told { tally.new ≡ played K.PartialEq.eq K.made V.made V.told (length nodes.old) row tally.old }
+{
+    play(&mut SearchTree::new(nodes), row, tally);
+}
+
+// Plays the row on both stores, over so many of their records, or all that there are. What the records held before plays no part.
 pub fn play_both<K: StoreKey + FromNumber, V: Numbered + Copy, R: Record<Key = K, Value = V>>(
     records: &mut [R],
     nodes: &mut [TreeNode<R>],
+    lent: usize,
     row: Row,
 ) -> Tallies
-    ensures table { result.table ≡ played K.PartialEq.eq K.made V.made V.told (length records.old) row blank }
-    ensures tree { result.tree ≡ played K.PartialEq.eq K.made V.made V.told (length nodes.old) row blank }
+    ensures table { result.table ≡ played K.PartialEq.eq K.made V.made V.told (min lent (length records.old)) row blank }
+    ensures tree { result.tree ≡ played K.PartialEq.eq K.made V.made V.told (min lent (length nodes.old)) row blank }
     ensures agreed { length records.old ≡ length nodes.old → result.table ≡ result.tree }
 {
     let mut table = Tally::new();
-    play(&mut Table::new(records), row, &mut table);
+    let most = lent.min(records.len());
+    play_table(&mut records[..most], row, &mut table);
     let mut tree = Tally::new();
-    play(&mut SearchTree::new(nodes), row, &mut tree);
+    let most = lent.min(nodes.len());
+    play_tree(&mut nodes[..most], row, &mut tree);
     Tallies { table, tree }
 }
 
@@ -81,8 +106,8 @@ pub fn look_both(
     puts: &[(u64, u64)],
     name: u64,
 ) -> (Option<u64>, Option<u64>)
-    ensures table { result.0 ≡ last_put nat_eq (taken nat_eq (length records.old) puts.now) name }
-    ensures tree { result.1 ≡ last_put nat_eq (taken nat_eq (length nodes.old) puts.now) name }
+    ensures table { result.0 ≡ last_put nat_eq (puts_taken nat_eq (length records.old) puts.now) name }
+    ensures tree { result.1 ≡ last_put nat_eq (puts_taken nat_eq (length nodes.old) puts.now) name }
 {
     (
         look_after(&mut Table::new(records), puts, name),

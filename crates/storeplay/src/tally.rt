@@ -25,7 +25,7 @@ impl Tally {
             refused: 0,
             held: 0,
             found: 0,
-            digest: 0,
+            digest: 1,
         }
     }
 
