@@ -11,7 +11,8 @@ use Rattle.cells.specs.declared.node.TreeNode.{TreeNode}
 use Rattle.cells.specs.declared.nodes.Stop.TheVariants.{At, Off}
 use Rattle.model.specs.Parts.{none_held}
 use Rattle.cells.specs.Slots.{Pairs, pair_at, used_in, keyed_in}
-use Rattle.cells.specs.Walks.{no_links, link_to, with_link, link_at, hung, side_of, is_at, walk, walk_for, Grown}
+use Rattle.cells.specs.Records.{no_links}
+use Rattle.cells.specs.Walks.{link_to, with_link, link_at, hung, side_of, is_at, walk, walk_for, Grown}
 use Rattle.cells.proofs.Meant.{pair_at-blank, pairs-blank, used_in-blank, keyed_in-blank}
 use Rattle.cells.proofs.Walking.{step_at, step_off, step_on, way, stays, falls, goes, used_fits, is_used, side_used, rises, told_off, some_slot, at_from}
 use Rattle.cells.proofs.Ending.{own_side, end_key, sought_root}

@@ -3,7 +3,9 @@ pub mod Faults
 pub mod Keys
 pub mod Stores
 pub mod Puts
+pub mod Records
 pub mod Slots
 pub mod Probes
 pub mod Walks
+pub mod Meanings
 pub mod Examples

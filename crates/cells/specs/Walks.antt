@@ -12,15 +12,12 @@ use Rattle.cells.specs.declared.node.Side.TheVariants.{Left, Right}
 use Rattle.cells.specs.declared.node.TreeNode.{TreeNode}
 use Rattle.cells.specs.declared.nodes.Stop.{Stop}
 use Rattle.cells.specs.declared.nodes.Stop.TheVariants.{At, Off}
+use Rattle.cells.specs.Records.{record_in, no_links}
 use Rattle.cells.specs.Slots.{Pairs, pairs_in, pair_at}
-
--- a leaf's links
-abbrev pub no_links : Links
-no_links = record { left = 0; right = 0 }
 
 -- what nodes hold, if `held` says what each record holds
 abbrev pub pairs_of : {R K V : Type 0} → (R → Option (K × V)) → Slots (TreeNode R) K V → Pairs K V
-pairs_of held s = pairs_in (λ n. held n.record) s
+pairs_of held s = pairs_in (λ n. held (record_in n)) s
 
 -- the links of nodes
 abbrev pub links_in : {R K V : Type 0} → Slots (TreeNode R) K V → List Links

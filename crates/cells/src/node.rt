@@ -1,6 +1,7 @@
 // The nodes of a search tree.
 ghost use Rattle.std.specs.Prelude.{◌≡◌};
-ghost use Rattle.cells.specs.Walks.{link_to, with_link, no_links};
+ghost use Rattle.cells.specs.Records.{no_links, record_in, leaf};
+ghost use Rattle.cells.specs.Walks.{link_to, with_link};
 
 use crate::record::Record;
 
@@ -52,11 +53,11 @@ impl<R: Record> Record for TreeNode<R> {
 
     type Value = R::Value;
 
-    ghost held = { λ n. R.held n.record };
+    ghost held = { λ n. R.held (record_in n) };
 
-    ghost BLANK = { record { «record» = R.BLANK; links = no_links } };
+    ghost BLANK = { leaf R.BLANK };
 
-    ghost made = { λ k v. record { «record» = R.made k v; links = no_links } };
+    ghost made = { λ k v. leaf (R.made k v) };
 
     ghost blank = { R.blank };
 

@@ -1,5 +1,6 @@
 // What a store keeps its keys and values in.
 ghost use Rattle.std.specs.Prelude.{◌≡◌, Some, None, Option, refl};
+ghost use Rattle.cells.specs.Records.{pair_in, blank_record, record_of};
 
 use crate::key::StoreKey;
 use model::{Cell, History};
@@ -44,11 +45,11 @@ impl<K: StoreKey, V: Copy> Record for PairRecord<K, V> {
 
     type Value = V;
 
-    ghost held = { λ r. r.pair };
+    ghost held = { pair_in };
 
-    ghost BLANK = { record { pair = None } };
+    ghost BLANK = { blank_record };
 
-    ghost made = { λ k v. record { pair = Some (k, v) } };
+    ghost made = { record_of };
 
     ghost blank = { refl };
 

@@ -31,13 +31,13 @@ impl<'a, R: Record> Table<'a, R> {
 }
 
 impl<'a, R: Record> Store for Table<'a, R> {
-    ghost use Rattle.cells.specs.Slots.{keyed_in};
+    ghost use Rattle.cells.specs.Meanings.{table_meaning};
 
     type Key = R::Key;
 
     type Value = R::Value;
 
-    ghost meaning = { λ t. keyed_in R.Key.PartialEq.eq (pairs_in R.held t.slots) };
+    ghost meaning = { table_meaning R.held R.Key.PartialEq.eq };
 
     fn empty(&mut self) {
         self.slots.clear();

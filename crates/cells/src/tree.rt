@@ -33,13 +33,13 @@ impl<'a, R: Record> SearchTree<'a, R> {
 }
 
 impl<'a, R: Record> Store for SearchTree<'a, R> {
-    ghost use Rattle.cells.specs.Slots.{keyed_in};
+    ghost use Rattle.cells.specs.Meanings.{tree_meaning};
 
     type Key = R::Key;
 
     type Value = R::Value;
 
-    ghost meaning = { λ t. keyed_in R.Key.PartialEq.eq (pairs_of R.held t.slots) };
+    ghost meaning = { tree_meaning R.held R.Key.PartialEq.eq };
 
     fn empty(&mut self) {
         self.slots.clear();

@@ -4,7 +4,8 @@ use Rattle.std.proofs.lemmas.Bool.{eqb-false}
 use Rattle.std.proofs.lemmas.List.{length-map, get_or-map}
 use Rattle.cells.specs.declared.node.Side.{Side}
 use Rattle.cells.specs.declared.node.TreeNode.{TreeNode}
-use Rattle.cells.specs.Walks.{links_in, pairs_of, no_links, link_to, link_at}
+use Rattle.cells.specs.Walks.{links_in, pairs_of, link_to, link_at}
+use Rattle.cells.specs.Records.{no_links}
 use Rattle.cells.proofs.Walking.{on_at, on_off, on_on}
 use Rattle.cells.proofs.nodes.Slots+TreeNode+R.descend.Goals as goal
 

@@ -4,7 +4,8 @@ use Rattle.std.proofs.lemmas.List.{map-set, get_or-map, get_or-set_other}
 use Rattle.std.proofs.Math.Seq.{map-set_same}
 use Rattle.cells.specs.declared.node.Side.{Side}
 use Rattle.cells.specs.declared.node.TreeNode.{TreeNode}
-use Rattle.cells.specs.Walks.{no_links, with_link, hung}
+use Rattle.cells.specs.Records.{no_links}
+use Rattle.cells.specs.Walks.{with_link, hung}
 use Rattle.cells.proofs.Meant.{held_new}
 use Rattle.cells.proofs.nodes.Slots+TreeNode+R.grow.Goals as goal
 
