@@ -1,9 +1,12 @@
--- The text of a cell, an event and a layer.
+-- The text of a cell, an event, a race and a layer.
 use Rattle.std.specs.Prelude.{ℕ, List, ◌++◌, Some, codes, decimal, Option}
 use Rattle.std.specs.Fmt.{option_append}
 use Rattle.model.specs.declared.Cell.{Cell}
 use Rattle.model.specs.declared.Event.{Event}
 use Rattle.model.specs.declared.Event.TheVariants.{Spawn, End, Open, Close, Read, Write}
+use Rattle.model.specs.declared.RaceKind.{RaceKind}
+use Rattle.model.specs.declared.RaceKind.TheVariants.{WriteRead, WriteWrite, ReadWrite}
+use Rattle.model.specs.declared.Race.{Race}
 use Rattle.model.specs.declared.Layer.{Layer}
 use Rattle.model.specs.declared.Layer.TheVariants.{Bytes, Run, Order, Cells}
 
@@ -20,6 +23,18 @@ module _ {C : Type 0} (shown : C → Option (List ℕ)) where
   event_shown (Close t) = Some (codes "close " ++ decimal t)
   event_shown (Read t c) = option_append (Some (codes "read ")) (option_append (Some (decimal t)) (option_append (Some (codes " ")) (shown c)))
   event_shown (Write t c) = option_append (Some (codes "write ")) (option_append (Some (decimal t)) (option_append (Some (codes " ")) (shown c)))
+
+-- a kind is the first letters of the two accesses, the earlier one first
+abbrev pub kind_text : RaceKind → List ℕ
+kind_text WriteRead = codes "wr"
+kind_text WriteWrite = codes "ww"
+kind_text ReadWrite = codes "rw"
+
+-- a race is its kind, its cell and its places: ww cell 1/5 first 1 second 2
+abbrev pub race_shown : {C : Type 0} → (C → Option (List ℕ)) → Race C → Option (List ℕ)
+race_shown shown r =
+    option_append (Some (kind_text r.kind)) (option_append (Some (codes " cell ")) (option_append (shown r.cell)
+    (Some (codes " first " ++ (decimal r.first ++ (codes " second " ++ decimal r.second))))))
 
 -- a layer is its name in small letters
 abbrev pub layer_text : Layer → List ℕ
