@@ -54,6 +54,10 @@ pub trait Keeper: HappensBefore {
         ensures answered { let m = Self.meaning self.old in result ≡ reply (end_fault m task) (m.task task).current }
         ensures kept { let m = Self.meaning self.old in Self.meaning self.new ≡ moved (end_fault m task) m (done m task) };
 
+    // How many tasks are held: the number that the next one gets.
+    fn tasks(&self) -> u64
+        ensures value { result ≡ (Self.meaning self.now).tasks };
+
     // Whether a task runs; one that is not held counts as ended.
     fn stage(&self, task: u64) -> TaskStage
         ensures value { result ≡ stage_of ((Self.meaning self.now).task task) };

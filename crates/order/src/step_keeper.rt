@@ -72,6 +72,10 @@ impl<'a, P: Planned> Keeper for StepKeeper<'a, P> {
         self.book.try_end(task)
     }
 
+    fn tasks(&self) -> u64 {
+        self.book.tasks
+    }
+
     fn stage(&self, task: u64) -> TaskStage {
         self.book.stage(task)
     }
