@@ -1,0 +1,7 @@
+pub mod Faults
+pub mod Parting
+pub mod Shown
+pub mod Runs
+pub mod Lawful
+pub mod Replays
+pub mod Laws
