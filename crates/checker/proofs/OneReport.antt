@@ -1,5 +1,5 @@
 -- One report fits a file: of two ways to cut it neither goes on where the other ends.
-use Rattle.std.proofs.Common.{◌≡◌, ℕ, List, [], ◌∷◌, ◌++◌, length, reverse, Some, None, sym, refl, ap, ◌∙◌, subst, ◌⊎◌, inl, inr}
+use Rattle.std.proofs.Common.{◌≡◌, ℕ, List, [], ◌∷◌, ◌++◌, length, reverse, None, sym, refl, ap, ◌∙◌, subst, ◌⊎◌, inl, inr}
 use Rattle.std.specs.List.{AllByRecursion}
 use Rattle.std.proofs.lemmas.Bool.{cases_lt}
 use Rattle.std.proofs.lemmas.Grind.{reverse_onto}
@@ -13,11 +13,11 @@ use Rattle.model.specs.Laws.{Outcome}
 use Rattle.record.specs.declared.fault.ByteRefusal.{ByteRefusal}
 use Rattle.record.specs.Numbers.{number_form}
 use Rattle.record.specs.Events.{Writable, EventRead}
-use Rattle.record.proofs.OneNumber.{numbers_apart, number_not_refused}
+use Rattle.record.proofs.OneNumber.{numbers_apart}
 use Rattle.record.proofs.OneEvent.{events_apart}
-use Rattle.record.proofs.OneHeading.{heading_back, heading_not_refused}
+use Rattle.record.proofs.OneHeading.{heading_back}
 use Rattle.listing.specs.Files.{events_form, NoJob}
-use Rattle.listing.proofs.OneListing.{only_listing}
+use Rattle.listing.proofs.OneListing.{no_job_once, job_or_none}
 use Rattle.checker.specs.declared.fault.FileRefusal.{FileRefusal}
 use Rattle.checker.specs.declared.report.Report.{Report}
 use Rattle.checker.specs.declared.report.Report.TheVariants.{Unopened}
@@ -84,14 +84,7 @@ module _ (l : Limits) (bs : List ℕ) where
 
   -- a file with a job number has no reason to be shut
   opened_or_shut : (a : Report) (f : ByteRefusal) → Opened l bs a → NoJob bs f → ⊥
-  opened_or_shut a f o (inl (place, why)) = heading_not_refused bs (number_form o.job ++ (past_form o.taken ++ o.rest)) f.fault o.cut why
-  opened_or_shut a f o (inr (rest, read, place, why)) =
-      let mine : List ℕ = past_form o.taken ++ o.rest in
-      number_not_refused rest o.job mine f.fault (o.job_fits, heading_back bs rest (number_form o.job ++ mine) read o.cut) why
-
-  -- at most one refusal shuts a file
-  one_refusal : (f g : ByteRefusal) → NoJob bs f → NoJob bs g → f ≡ g
-  one_refusal f g p q = let same = (only_listing bs None [] (Some f) (refl, p) None [] (Some g) (refl, q)).2 in cc
+  opened_or_shut a f o why = job_or_none bs f o.job (past_form o.taken ++ o.rest) why o.job_fits o.cut
 
   -- what is said of a file that is not too long
   abbrev Fitting : Report → Type 0
@@ -101,7 +94,7 @@ module _ (l : Limits) (bs : List ℕ) where
   one_fits a b (inl (o, m)) (inl (p, n)) = one_opened b a p o
   one_fits a b (inl (o, m)) (inr (g, e, (s, t, why))) = absurd (opened_or_shut a s o why)
   one_fits a b (inr (f, e, (r, t, why))) (inl (p, n)) = absurd (opened_or_shut b r p why)
-  one_fits a b (inr (f, e, (r, t, why))) (inr (g, k, (s, u, how))) = let same : r ≡ s = one_refusal r s why how in cc
+  one_fits a b (inr (f, e, (r, t, why))) (inr (g, k, (s, u, how))) = let same = no_job_once bs r s why how in cc
 
   pub only : (report : Report) → Checked l bs report → OnlyReport l bs report
   only a c b d = elim (cases_lt 65536 (length bs)) [

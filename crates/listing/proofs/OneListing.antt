@@ -69,7 +69,7 @@ only_events from bs es es' f f' p q =
     let once = events_once es es' u.rest v.rest u.all v.all (none_left (place es) u.rest f u.ends) (none_left (place es') v.rest f' v.ends) (sym u.cut ∙ v.cut) in
     (once.0, one_end (place es) u.rest f f' u.ends (rw (once.1, once.0) v.ends))
 
-no_job_once : (bs : List ℕ) (f g : ByteRefusal) → NoJob bs f → NoJob bs g → f ≡ g
+pub no_job_once : (bs : List ℕ) (f g : ByteRefusal) → NoJob bs f → NoJob bs g → f ≡ g
 no_job_once bs f g (inl h) (inl k) = same_refusal f g (heading_one_fault bs f.fault g.fault h.1 k.1) (h.0 ∙ sym k.0)
 no_job_once bs f g (inl h) (inr k) = absurd (heading_not_refused bs k.0 f.fault k.1 h.1)
 no_job_once bs f g (inr h) (inl k) = absurd (heading_not_refused bs h.0 g.fault h.1 k.1)
@@ -77,7 +77,7 @@ no_job_once bs f g (inr h) (inr k) =
     same_refusal f g (number_one_fault h.0 f.fault g.fault h.3 (rw (heading_back bs h.0 k.0 h.1 k.1) k.3)) (h.2 ∙ sym k.2)
 
 -- a file with no job number does not begin with one
-job_or_none : (bs : List ℕ) (f : ByteRefusal) (job : ℕ) (rest : List ℕ) → NoJob bs f → job < 2 ^ 63 → bs ≡ heading ++ (number_form job ++ rest) → ⊥
+pub job_or_none : (bs : List ℕ) (f : ByteRefusal) (job : ℕ) (rest : List ℕ) → NoJob bs f → job < 2 ^ 63 → bs ≡ heading ++ (number_form job ++ rest) → ⊥
 job_or_none bs f job rest (inl h) l e = heading_not_refused bs (number_form job ++ rest) f.fault e h.1
 job_or_none bs f job rest (inr h) l e = number_not_refused h.0 job rest f.fault (l, heading_back bs h.0 (number_form job ++ rest) h.1 e) h.3
 

@@ -1,5 +1,6 @@
 pub mod Faults
 pub mod Parting
+pub mod Tokens
 pub mod Shown
 pub mod Runs
 pub mod Lawful

@@ -79,11 +79,6 @@ module _ {K S N : Type 0} (order : K → Order) (cells : S → Keyed Cell Histor
   abbrev pub opening_of : Opens K S N → Opening
   opening_of o = opening o.job o.event_limit o.keeper o.store o.names
 
--- a seal that is refused hands its token back
-abbrev pub GivenBack : Token → Result Verdict (Refusal × Token) → Type 0
-GivenBack t (Ok v) = Unit {0}
-GivenBack t (Err p) = p.1 ≡ t
-
 -- a call of a list
 abbrev pub reply_of : OwnReply → Reply Cell
 reply_of (Replied (Taken r)) = took r

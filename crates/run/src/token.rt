@@ -1,29 +1,31 @@
 // The token of a run.
-ghost use Rattle.std.specs.Prelude.{◌≡◌, Some};
+ghost use Rattle.std.specs.Prelude.{◌≡◌, Some, IsTrue};
+ghost use Rattle.run.specs.Tokens.{token_of};
 ghost use Rattle.run.specs.Shown.{withdrawn_text};
 
 use std::fmt;
 
-// What a run gives when it is opened, made for its job. It has to be spent: by sealing the run, or by withdrawing it.
+// What a run gives when it is opened, made for its job. It is spent by sealing the run, or by withdrawing it.
 #[derive(Debug)]
 pub struct Token {
     job: u64,
+    spent: bool,
 }
 
-// A token can't be let go: no caller can show what this asks.
+// Only a token that is spent can be let go. No caller has one: what spends a token takes it.
 impl Drop for Token {
     fn drop(self)
-        requires unspent { ⊥ }
+        requires spent { IsTrue self.spent }
     {
-        let Token { job: _ } = self;
+        let Token { job: _, spent: _ } = self;
     }
 }
 
 impl Token {
     pub(crate) fn new(job: u64) -> Token
-        ensures value { result.job ≡ job }
+        ensures value { result ≡ token_of job }
     {
-        Token { job }
+        Token { job, spent: false }
     }
 
     // The job that it was made for.
@@ -33,12 +35,13 @@ impl Token {
         self.job
     }
 
-    // Spends it.
+    // Spends it, and lets it go.
     pub(crate) fn spend(self) -> u64
         ensures value { result ≡ self.job }
     {
-        let Token { job } = self;
-        job
+        let mut token = self;
+        token.spent = true;
+        token.job
     }
 
     // Spends it without a verdict.

@@ -29,7 +29,7 @@ impl<K: Keeper, S: Store<Key = Cell, Value = History>, N: Store<Key = u64, Value
     }
 
     // The keeper's number of the task that does an event, if the run may take one more, and knows the task.
-    pub(crate) fn admit(&self, limit: u64, event: Event<Cell>) -> Result<u64, RunFault>
+    fn admit(&self, limit: u64, event: Event<Cell>) -> Result<u64, RunFault>
         ensures { result ≡ admitted limit (parts_in K.meaning S.meaning N.meaning self.now) event }
     {
         if self.taken >= limit {
@@ -41,7 +41,8 @@ impl<K: Keeper, S: Store<Key = Cell, Value = History>, N: Store<Key = u64, Value
         self.number_of(event.task()).ok_or(RunFault::UnknownTask)
     }
 
-    pub(crate) fn spawn(&mut self, number: u64, child: u64) -> Result<Option<Race<Cell>>, RunFault>
+    // A new task, with a name that was never given.
+    fn spawn(&mut self, number: u64, child: u64) -> Result<Option<Race<Cell>>, RunFault>
         ensures answered { told result ≡ judged_kind (parts_in K.meaning S.meaning N.meaning self.old) number (Spawn number child) }
         ensures kept { let p = parts_in K.meaning S.meaning N.meaning self.old in
             parts_in K.meaning S.meaning N.meaning self.new ≡ acted p number (Spawn number child) (judged_kind p number (Spawn number child)) }
@@ -55,33 +56,6 @@ impl<K: Keeper, S: Store<Key = Cell, Value = History>, N: Store<Key = u64, Value
         let made = self.keeper.tasks();
         self.keeper.spawn(number)?;
         self.names.put(child, made)?;
-        Ok(None)
-    }
-
-    pub(crate) fn end(&mut self, number: u64) -> Result<Option<Race<Cell>>, RunFault>
-        ensures answered { told result ≡ judged_kind (parts_in K.meaning S.meaning N.meaning self.old) number (End number) }
-        ensures kept { let p = parts_in K.meaning S.meaning N.meaning self.old in
-            parts_in K.meaning S.meaning N.meaning self.new ≡ acted p number (End number) (judged_kind p number (End number)) }
-    {
-        self.keeper.end(number)?;
-        Ok(None)
-    }
-
-    pub(crate) fn open(&mut self, number: u64) -> Result<Option<Race<Cell>>, RunFault>
-        ensures answered { told result ≡ judged_kind (parts_in K.meaning S.meaning N.meaning self.old) number (Open number) }
-        ensures kept { let p = parts_in K.meaning S.meaning N.meaning self.old in
-            parts_in K.meaning S.meaning N.meaning self.new ≡ acted p number (Open number) (judged_kind p number (Open number)) }
-    {
-        self.keeper.open(number)?;
-        Ok(None)
-    }
-
-    pub(crate) fn close(&mut self, number: u64) -> Result<Option<Race<Cell>>, RunFault>
-        ensures answered { told result ≡ judged_kind (parts_in K.meaning S.meaning N.meaning self.old) number (Close number) }
-        ensures kept { let p = parts_in K.meaning S.meaning N.meaning self.old in
-            parts_in K.meaning S.meaning N.meaning self.new ≡ acted p number (Close number) (judged_kind p number (Close number)) }
-    {
-        self.keeper.close(number)?;
         Ok(None)
     }
 
@@ -99,7 +73,8 @@ impl<K: Keeper, S: Store<Key = Cell, Value = History>, N: Store<Key = u64, Value
         }
     }
 
-    pub(crate) fn read(&mut self, number: u64, cell: Cell) -> Result<Option<Race<Cell>>, RunFault>
+    // A read: it is judged by the last write of its cell, and then kept with the cell's reads.
+    fn read(&mut self, number: u64, cell: Cell) -> Result<Option<Race<Cell>>, RunFault>
         ensures answered { told result ≡ judged_kind (parts_in K.meaning S.meaning N.meaning self.old) number (Read number cell) }
         ensures kept { let p = parts_in K.meaning S.meaning N.meaning self.old in
             parts_in K.meaning S.meaning N.meaning self.new ≡ acted p number (Read number cell) (judged_kind p number (Read number cell)) }
@@ -114,7 +89,8 @@ impl<K: Keeper, S: Store<Key = Cell, Value = History>, N: Store<Key = u64, Value
         Ok(race)
     }
 
-    pub(crate) fn write(&mut self, number: u64, cell: Cell) -> Result<Option<Race<Cell>>, RunFault>
+    // A write: it is judged by all that is kept of its cell, and takes the place of it.
+    fn write(&mut self, number: u64, cell: Cell) -> Result<Option<Race<Cell>>, RunFault>
         ensures answered { told result ≡ judged_kind (parts_in K.meaning S.meaning N.meaning self.old) number (Write number cell) }
         ensures kept { let p = parts_in K.meaning S.meaning N.meaning self.old in
             parts_in K.meaning S.meaning N.meaning self.new ≡ acted p number (Write number cell) (judged_kind p number (Write number cell)) }
@@ -127,20 +103,22 @@ impl<K: Keeper, S: Store<Key = Cell, Value = History>, N: Store<Key = u64, Value
         Ok(race)
     }
 
-    // An event of the task with this number, by its kind.
+    // An event of the task with this number, by its kind. In the contracts of its parts the number stands where an event has the task's
+    // name: the name plays no part any more.
     fn act(&mut self, number: u64, event: Event<Cell>) -> Result<Option<Race<Cell>>, RunFault>
         ensures answered { told result ≡ judged_kind (parts_in K.meaning S.meaning N.meaning self.old) number event }
         ensures kept { let p = parts_in K.meaning S.meaning N.meaning self.old in
             parts_in K.meaning S.meaning N.meaning self.new ≡ acted p number event (judged_kind p number event) }
     {
         match event {
-            Event::Spawn { child, .. } => self.spawn(number, child),
-            Event::End { .. } => self.end(number),
-            Event::Open { .. } => self.open(number),
-            Event::Close { .. } => self.close(number),
-            Event::Read { cell, .. } => self.read(number, cell),
-            Event::Write { cell, .. } => self.write(number, cell),
-        }
+            Event::Spawn { child, .. } => return self.spawn(number, child),
+            Event::Read { cell, .. } => return self.read(number, cell),
+            Event::Write { cell, .. } => return self.write(number, cell),
+            Event::End { .. } => self.keeper.end(number)?,
+            Event::Open { .. } => self.keeper.open(number)?,
+            Event::Close { .. } => self.keeper.close(number)?,
+        };
+        Ok(None)
     }
 
     // The next event, counted if it is taken.

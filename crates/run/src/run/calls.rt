@@ -2,7 +2,8 @@
 ghost use Rattle.std.specs.Prelude.{◌≡◌};
 ghost use Rattle.model.specs.declared.Event.TheVariants.{Spawn, End, Open, Close, Read, Write};
 ghost use Rattle.model.specs.declared.Call.TheVariants.{Feed, Seal};
-ghost use Rattle.run.specs.Runs.{Answered, GivenBack, held_in, fed, sealed};
+ghost use Rattle.run.specs.Tokens.{GivenBack};
+ghost use Rattle.run.specs.Runs.{Answered, held_in, fed, sealed};
 ghost use Rattle.run.specs.Lawful.{Lawful};
 
 use super::{Answer, Run};

@@ -1,7 +1,8 @@
 // What a run does with an event and with a seal, by its stage.
 ghost use Rattle.std.specs.Prelude.{◌≡◌};
 ghost use Rattle.model.specs.declared.Call.TheVariants.{Feed, Seal};
-ghost use Rattle.run.specs.Runs.{held_in, answer_of, left_by, fed_at, sealed_at, Answered, GivenBack, fed, sealed, reply_of};
+ghost use Rattle.run.specs.Tokens.{GivenBack};
+ghost use Rattle.run.specs.Runs.{held_in, answer_of, left_by, fed_at, sealed_at, Answered, fed, sealed, reply_of};
 
 use super::{Answer, Run};
 use crate::fault::{Refusal, RunFault};
@@ -23,13 +24,13 @@ impl<K: Keeper, S: Store<Key = Cell, Value = History>, N: Store<Key = u64, Value
         ensures job { self.new.job ≡ self.old.job }
         ensures limit { self.new.limit ≡ self.old.limit }
     {
-        match (self.stage, event) {
+        match (&mut self.stage, event) {
             (Stage::Sealed(_), _) => Err(RunFault::Sealed),
-            (Stage::Raced(race), _) => Ok(Answer::Stopped(race)),
-            (Stage::Feeding, event) => {
+            (Stage::Raced(race), _) => Ok(Answer::Stopped(*race)),
+            (stage @ Stage::Feeding, event) => {
                 let race = self.parts.take(self.limit, event)?;
                 if let Some(race) = race {
-                    self.stage = Stage::Raced(race);
+                    *stage = Stage::Raced(race);
                 }
                 Ok(Answer::Taken(race))
             }

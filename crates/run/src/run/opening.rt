@@ -2,6 +2,7 @@
 ghost use Rattle.std.specs.Prelude.{◌≡◌, []};
 ghost use Rattle.run.specs.Runs.{opening, opening_of};
 ghost use Rattle.run.specs.Lawful.{Led};
+ghost use Rattle.run.specs.Tokens.{token_of};
 
 use super::Run;
 use crate::parts::Parts;
@@ -32,7 +33,7 @@ impl<K: Keeper, S: Store<Key = Cell, Value = History>, N: Store<Key = u64, Value
     // Opens the run.
     pub fn open(self) -> (Run<K, S, N>, Token)
         ensures led { Led K.meaning S.meaning N.meaning (opening_of K.meaning S.meaning N.meaning self) [] result.0 }
-        ensures token { result.1.job ≡ self.job }
+        ensures token { result.1 ≡ token_of self.job }
     {
         Run::open(
             self.job,
@@ -52,7 +53,7 @@ impl<K: Keeper, S: Store<Key = Cell, Value = History>, N: Store<Key = u64, Value
     // Takes the parts, empties them, and opens a run over them, with its token.
     pub fn open(job: u64, event_limit: u64, keeper: K, store: S, names: N) -> (Run<K, S, N>, Token)
         ensures led { Led K.meaning S.meaning N.meaning (opening K.meaning S.meaning N.meaning job event_limit keeper store names) [] result.0 }
-        ensures token { result.1.job ≡ job }
+        ensures token { result.1 ≡ token_of job }
     {
         let (mut keeper, mut store, mut names) = (keeper, store, names);
         keeper.empty();
