@@ -54,7 +54,7 @@ pub fn check_over<
     }
 }
 
-// Checks a file over the tree keeper and the probing table, with room for 1,001 steps, 512 cells and 256 names.
+// Checks a file over the tree keeper and the probing table, with room for 65,535 events, 1,001 steps, 512 cells and 256 names.
 pub fn check(alloc: Global, bytes: &[u8]) -> Result<Report, AllocError>
     ensures checked { IfOk result (λ report. Checked check_limits bytes.now report) }
     ensures only { IfOk result (λ report. OnlyReport check_limits bytes.now report) }

@@ -11,7 +11,7 @@ use std::fmt;
 
 #[derive(Clone, Copy, PartialEq, Eq, Debug)]
 pub enum FileFault {
-    // its bytes are no heading, no job number or no event
+    // its bytes are no heading, no job number or no event, or too many
     Bytes(ByteFault),
     // the run refuses an event
     Run(RunFault),
@@ -63,7 +63,7 @@ impl FileFault {
     }
 }
 
-// A fault, and the first byte of what is refused: the heading, the job number or an event.
+// A fault, and the first byte of what is refused: the heading, the job number, an event, or what is too much.
 #[derive(Clone, Copy, PartialEq, Eq, Debug)]
 pub struct FileRefusal {
     pub fault: FileFault,

@@ -1,4 +1,4 @@
-// Record files against the lines of their reports, fifty of those of tests/records.tsv.
+// Record files against the lines of their reports, some of those of tests/records.tsv.
 use checker::check;
 use std::alloc::Global;
 use std::fmt::Write;

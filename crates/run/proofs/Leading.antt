@@ -10,8 +10,8 @@ use Rattle.model.specs.Runs.{Opening, Reply, answer_to, after_calls}
 use Rattle.model.specs.Holding.{held_answer, held_by, held_after}
 use Rattle.model.proofs.Parting.Calls.{answered_by_parts}
 use Rattle.run.specs.declared.run.Run.{Run}
-use Rattle.run.specs.Runs.{answer_of, Answered}
-use Rattle.run.specs.Lawful.{Lawful}
+use Rattle.run.specs.Runs.{held_in, answer_of, Answered}
+use Rattle.run.specs.Lawful.{Lawful, StageTold, CountTold}
 
 -- the first of some replies
 abbrev head : Reply Cell → List (Reply Cell) → Reply Cell
@@ -36,3 +36,9 @@ module _ {K S N : Type 0} (order : K → Order) (cells : S → Keyed Cell Histor
           holds = a.kept ∙ (λ i. held_by mailbox_cells (l.holds i) c (x i));
         },
       )
+
+  pub stage_told : (r : Run K S N) → StageTold order cells names r ((held_in order cells names r).stage)
+  stage_told r o cs l = ap (λ h. h.stage) l.holds ∙ (answered_by_parts mailbox_cells o cs).stage_is
+
+  pub count_told : (r : Run K S N) → CountTold order cells names r ((held_in order cells names r).parts.count)
+  count_told r o cs l = ap (λ h. h.parts.count) l.holds ∙ (answered_by_parts mailbox_cells o cs).count_is

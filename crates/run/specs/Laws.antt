@@ -23,7 +23,7 @@ RacedLatest o h m = (r : Race Cell) → m ≡ Some r → (suc r.second ≡ lengt
 abbrev pub RacedBeside : Past Cell → Option (Race Cell) → Type 0
 RacedBeside h m = (r : Race Cell) → m ≡ Some r → Beside h r.first r.second
 
--- if none is named, every legal order has all the events, and a run that is opened with the same takes each with no race
+-- if none is named, every legal order has all the events, and a run of the same job and limits takes each with no race
 abbrev pub CleanAnyOrder : Opening → Past Cell → Option (Race Cell) → Type 0
 CleanAnyOrder o h m =
     m ≡ None → (p : List ℕ) → Legal h p

@@ -6,3 +6,4 @@ pub mod Runs
 pub mod Lawful
 pub mod Replays
 pub mod Laws
+pub mod Examples

@@ -79,7 +79,7 @@ module _ {K S N : Type 0} (order : K → Order) (cells : S → Keyed Cell Histor
   abbrev pub opening_of : Opens K S N → Opening
   opening_of o = opening o.job o.event_limit o.keeper o.store o.names
 
--- a call of a list
+-- what a call of a list is answered
 abbrev pub reply_of : OwnReply → Reply Cell
 reply_of (Replied (Taken r)) = took r
 reply_of (Replied (Stopped r)) = stopped r

@@ -1,4 +1,4 @@
--- How a verdict, a withdrawal, a refusal and an answer are shown.
+-- How words, verdicts, withdrawals, refusals, answers and replies are shown.
 use Rattle.std.specs.Prelude.{ℕ, List, ◌++◌, Option, Some, None, codes, decimal}
 use Rattle.model.specs.declared.Cell.{Cell}
 use Rattle.model.specs.declared.Race.{Race}
@@ -27,12 +27,16 @@ abbrev pub word_text : Word → List ℕ
 word_text Clean = codes "clean"
 word_text Raced = codes "raced"
 
+-- `job 7 clean`, or `job 7 raced`
+abbrev pub head_text : ℕ → Option (Race Cell) → List ℕ
+head_text job o = codes "job " ++ (decimal job ++ (codes " " ++ word_text (word_of o)))
+
 -- `job 7 clean events 3`, or `job 7 raced ww cell 1/5 first 1 second 2 events 3`
 abbrev pub found_shown : ℕ → Option (Race Cell) → ℕ → Option (List ℕ)
-found_shown job None n = Some (codes "job " ++ (decimal job ++ (codes " clean events " ++ decimal n)))
+found_shown job None n = Some (head_text job None ++ (codes " events " ++ decimal n))
 found_shown job (Some r) n =
-    option_append (Some (codes "job ")) (option_append (Some (decimal job)) (option_append (Some (codes " raced "))
-    (option_append (race_shown (λ c. Some (cell_text c)) r) (Some (codes " events " ++ decimal n)))))
+    option_append (Some (head_text job (Some r))) (option_append (Some (codes " ")) (option_append
+    (race_shown (λ c. Some (cell_text c)) r) (Some (codes " events " ++ decimal n))))
 
 abbrev pub verdict_shown : Verdict → Option (List ℕ)
 verdict_shown v = found_shown v.job v.race v.events

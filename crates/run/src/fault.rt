@@ -16,7 +16,7 @@ pub enum RunFault {
     TooLarge,
     // the task is neither 0 nor made by a spawn that was taken
     UnknownTask,
-    // the child's name is 0, or was ever made
+    // the child's name is 0, or was made before
     NameTaken,
     // the name records are all used
     NoName,

@@ -10,7 +10,7 @@ mod token;
 mod verdict;
 
 pub use fault::{Refusal, RunFault};
-pub use log::{Asked, Reply, replay, replay_again};
+pub use log::{Asked, Reply, examples_hold, replay, replay_again};
 pub use run::{Answer, Opening, Run};
 pub use token::{Token, Withdrawn};
 pub use verdict::{Verdict, Word};

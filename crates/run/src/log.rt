@@ -5,6 +5,7 @@ ghost use Rattle.model.specs.Runs.{named, after_calls, replies, past_of, Upheld}
 ghost use Rattle.run.specs.Runs.{opening_of};
 ghost use Rattle.run.specs.Shown.{reply_shown};
 ghost use Rattle.run.specs.Replays.{calls_in, replies_in, taken_in, ReplayedOn, Replayed};
+ghost use Rattle.run.specs.Examples.{LogsShown, FaultsShown, WordsShown};
 ghost use Rattle.run.specs.Laws.{CleanSettled, RacedLatest, RacedBeside, CleanAnyOrder, FirstNamed, TakenAgain};
 
 use crate::fault::Refusal;
@@ -54,8 +55,8 @@ fn call_all<K: Keeper, S: Store<Key = Cell, Value = History>, N: Store<Key = u64
     }
 }
 
-// Opens a run and makes the calls in turn, whatever is refused; the stage that the run is then in. A call to seal is made with a
-// token of the job that it names.
+// Opens a run and makes the calls in turn, whatever is refused; the stage that the run is then in. A call to seal is made as
+// with a token of the job that it names.
 pub fn replay<
     K: Keeper + Drop,
     S: Store<Key = Cell, Value = History> + Drop,
@@ -104,3 +105,10 @@ pub fn replay_again<
 {
     (replay(first, log), replay(second, again))
 }
+
+// Examples, by computation. It computes nothing: its contract names them.
+pub fn examples_hold()
+    ensures logs { LogsShown }
+    ensures faults { FaultsShown }
+    ensures words { WordsShown }
+{}

@@ -48,8 +48,14 @@ impl fmt::Display for Verdict {
 
     fn fmt<W: fmt::Write>(&self, f: &mut fmt::Formatter<W>) -> fmt::Result {
         match self.race {
-            None => write!(f, "job {} clean events {}", self.job, self.events),
-            Some(race) => write!(f, "job {} raced {race} events {}", self.job, self.events),
+            None => write!(f, "job {} {} events {}", self.job, self.word(), self.events),
+            Some(race) => write!(
+                f,
+                "job {} {} {race} events {}",
+                self.job,
+                self.word(),
+                self.events
+            ),
         }
     }
 }

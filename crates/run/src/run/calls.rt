@@ -4,7 +4,7 @@ ghost use Rattle.model.specs.declared.Event.TheVariants.{Spawn, End, Open, Close
 ghost use Rattle.model.specs.declared.Call.TheVariants.{Feed, Seal};
 ghost use Rattle.run.specs.Tokens.{GivenBack};
 ghost use Rattle.run.specs.Runs.{Answered, held_in, fed, sealed};
-ghost use Rattle.run.specs.Lawful.{Lawful};
+ghost use Rattle.run.specs.Lawful.{Lawful, StageTold, CountTold};
 
 use super::{Answer, Run};
 use crate::fault::Refusal;
@@ -87,6 +87,7 @@ impl<K: Keeper, S: Store<Key = Cell, Value = History>, N: Store<Key = u64, Value
     // The stage that the run is in.
     pub fn stage(&self) -> Stage<Cell>
         ensures value { result ≡ (held_in K.meaning S.meaning N.meaning self.now).stage }
+        ensures lawful { StageTold K.meaning S.meaning N.meaning self.now result }
     {
         self.stage
     }
@@ -94,6 +95,7 @@ impl<K: Keeper, S: Store<Key = Cell, Value = History>, N: Store<Key = u64, Value
     // How many events it has taken.
     pub fn taken(&self) -> u64
         ensures value { result ≡ (held_in K.meaning S.meaning N.meaning self.now).parts.count }
+        ensures lawful { CountTold K.meaning S.meaning N.meaning self.now result }
     {
         self.parts.taken
     }

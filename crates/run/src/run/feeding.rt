@@ -85,7 +85,7 @@ impl<K: Keeper, S: Store<Key = Cell, Value = History>, N: Store<Key = u64, Value
         }
     }
 
-    // A call of either kind, a seal by the job of its token.
+    // A call of either kind, a seal by the job of a token.
     pub(crate) fn call(&mut self, call: Call<Cell>) -> Reply
         ensures answered { Answered K.meaning S.meaning N.meaning self.old call (reply_of result) self.new }
     {

@@ -1,5 +1,5 @@
 -- A report that fits the file is the only one.
-use Rattle.std.proofs.Common.{◌∙◌}
+use Rattle.std.proofs.Common.{ap, ◌∙◌}
 use Rattle.run.specs.Runs.{opening}
 use Rattle.checker.proofs.Opening.{no_job, opened}
 use Rattle.checker.proofs.Meaning.{too_long, shut, told}
@@ -24,6 +24,6 @@ returns-in-Ok g c =
     let report = c.finish.result in
     let at = c.new-reader.ensures in
     let start = opening g.K.HappensBefore.meaning g.S.Store.meaning g.N.Store.meaning c.in-Ok.job c.args.event_limit c.args.keeper c.args.store c.args.names in
-    let (h, race, rest, takes, ends) = c.finish.ensures.finished start c.open-run.ensures.led c.open-run.ensures.token in
+    let (h, race, rest, takes, ends) = c.finish.ensures.finished start c.open-run.ensures.led (ap (λ t. t.job) c.open-run.ensures.token) in
     let o = opened bytes c.new-reader.result c.read_job.new.reader at.before at.place start.limits c.in-Ok.job h race rest report c.in-Ok.ensures takes ends in
     clauses start.limits bytes report (told start.limits bytes c.if-bytes-gt-LIMIT.false report o)
