@@ -31,12 +31,20 @@ module _ (m : Order) where
   latest_new : (rs : List ℕ) (s : ℕ) → BeforeNone m s → Latest m (s ∷ rs) s
   latest_new rs s tip = grind arith
 
+  -- a read that is not before it, and was before no other, stays so
+  latest_old : (rs : List ℕ) (s x : ℕ) → Latest m rs x → (T (m.before x s) → ⊥) → Latest m (s ∷ rs) x
+  latest_old rs s x (i, n) nb = grind arith
+
   latest_case : (rs : List ℕ) (s x : ℕ) → Latest m (s ∷ rs) x → (x ≡ s) ⊎ (Latest m rs x × (T (m.before x s) → ⊥))
   latest_case rs s x (i, n) = grind arith
 
 module _ (m : Order) (laws : OrderLaws m) where
   before_irrefl : (a : ℕ) → T (m.before a a) → ⊥
   before_irrefl a b = laws.earlier_irrefl a (laws.before_earlier a a b)
+
+  -- what comes after y comes after each that y is or comes after
+  at_then : (x y z : ℕ) → T (at_or_after m y x) → T (m.before y z) → T (m.before x z)
+  at_then x y z h b = grind arith
 
   at_trans : (x y z : ℕ) → T (at_or_after m y x) → T (at_or_after m z y) → T (at_or_after m z x)
   at_trans x y z h k = grind arith

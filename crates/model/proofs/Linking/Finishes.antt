@@ -5,7 +5,7 @@ use lib.Dec.{eqb_refl}
 use Rattle.model.specs.declared.Event.{Event}
 use Rattle.model.specs.declared.Event.TheVariants.{Spawn, End, Open, Close, Read, Write}
 use Rattle.model.specs.Lists.{mem, head_or, rest}
-use Rattle.model.specs.Past.{Past, makes, own, opens, home, innermost, innermost_of, Finish, outer, opened_by}
+use Rattle.model.specs.Past.{Past, makes, own, is_open, opens, home, innermost, innermost_of, Finish, outer, opened_by}
 use Rattle.model.specs.Past.{same_finish}
 use Rattle.model.specs.Accesses.{CellKind}
 use Rattle.model.specs.Orders.{Order}
@@ -36,6 +36,11 @@ module _ {C : Type 0} where
   has_finish_old : (h : Past C) (e : Event C) (f : Finish) → HasFinish h f → HasFinish (e ∷ h) f
   has_finish_old h e outer q = tt
   has_finish_old h e (opened_by t n) q = let l = opens_le h e t in omega arith
+
+  -- an event that opens none adds none
+  has_finish_back : (h : Past C) (e : Event C) (f : Finish) → (T (is_open e) → ⊥) → HasFinish (e ∷ h) f → HasFinish h f
+  has_finish_back h e outer n q = tt
+  has_finish_back h e (opened_by t m) n q = grind arith
 
   -- the finishes of its own that a task has open were opened
   pub own_has : (h : Past C) (t n : ℕ) → T (mem n (own h t)) → n < opens h t
@@ -80,6 +85,11 @@ module _ {C : Type 0} (k : CellKind C) (lim : ℕ) where
   finish_number (Close a ∷ h) f = finish_number h f
   finish_number (Read a c ∷ h) f = finish_number h f
   finish_number (Write a c ∷ h) f = finish_number h f
+
+  -- a finish that was opened is not the next one
+  not_new : (h : Past C) (a : ℕ) (f : Finish) → HasFinish h f → T (same_finish f (opened_by a (opens h a))) → ⊥
+  not_new h a outer q s = s
+  not_new h a (opened_by t n) q s = grind arith
 
   -- a finish that was opened keeps its number
   pub finish_number_old : (h : Past C) (e : Event C) (f : Finish) → HasFinish h f → finish_number (e ∷ h) f ≡ finish_number h f

@@ -306,6 +306,9 @@ module _ {C : Type 0} (k : CellKind C) (lim : ℕ) (laws : (limit : ℕ) (m : Or
 
 -- a write leaves no read
 module _ {C : Type 0} (k : CellKind C) where
+  unordered_write : (h : Past C) (t : ℕ) (c : C) → unordered_reads k (Write t c ∷ h) c ≡ []
+  unordered_write h t c = grind arith
+
   kept_write : (h : Past C) (t : ℕ) (c : C) → keep (is_unordered k (Write t c ∷ h) c) (serial (Write t c ∷ h)) ≡ []
   kept_write h t c = grind (arith, nat_tests, keep_none)
 

@@ -13,7 +13,7 @@ use Rattle.model.specs.Before.{before, serial}
 use Rattle.model.specs.Accesses.{CellKind, reads, writes, accesses}
 use Rattle.model.specs.Cells.{cell_held, cells_held}
 use Rattle.model.specs.Cells.{last_write, reads_since, unordered_reads, left_read, right_read}
-use Rattle.model.specs.Rules.{Limits, Answer, taken, refused, refusal, judge, by_kind, race_of, race_with}
+use Rattle.model.specs.Rules.{Limits, Answer, taken, refused, refusal, judge, by_kind, accessed, race_of, race_with}
 use Rattle.model.specs.Rules.{first_tests, steps_held}
 use Rattle.model.specs.Legal.{Beside}
 use Rattle.model.specs.Laws.{RacedBy, of_kind}
@@ -47,6 +47,11 @@ module _ {C : Type 0} (k : CellKind C) where
   passes [] a m e = (tt, e)
   passes (p ∷ ps) a m e = grind (arith, passes ps)
 
+  -- where no test passes, nothing is refused
+  none_refuses : (ps : List (Bool × ℕ)) (a : Answer C) → Pass ps → refusal ps a ≡ a
+  none_refuses [] a p = refl
+  none_refuses (q ∷ ps) a p = grind (arith, none_refuses ps)
+
   -- the tests of each kind of event, of an access where it makes no race
   abbrev pub kind_tests : Limits → Past C → Event C → List (Bool × ℕ)
   kind_tests l h (Spawn t u) =
@@ -61,9 +66,18 @@ module _ {C : Type 0} (k : CellKind C) where
   kind_tests l h (Read t c) = (ended h t, 13) ∷ (not (cell_held k h c) && leb l.cells (cells_held k h), 18) ∷ []
   kind_tests l h (Write t c) = (ended h t, 13) ∷ (not (cell_held k h c) && leb l.cells (cells_held k h), 18) ∷ []
 
+  -- an access that is taken is answered with its race
+  accessed_of : (l : Limits) (h : Past C) (c : C) (r m : Option (Race C)) → accessed k l h c r ≡ taken m → r ≡ m
+  accessed_of l h c r m e = grind arith
+
   by_kind_of : (l : Limits) (h : Past C) (e : Event C) (m : Option (Race C)) → by_kind k l h e ≡ taken m → race_of k h e ≡ m
   by_kind_of l h (Spawn t u) m q = taken_inj None m (passes (kind_tests l h (Spawn t u)) (taken None) m q).1
   by_kind_of l h e m q = grind arith
+
+  -- an event that makes no race is judged by tests alone
+  by_tests : (l : Limits) (h : Past C) (e : Event C) → race_of k h e ≡ None → by_kind k l h e ≡ refusal (kind_tests l h e) (taken None)
+  by_tests l h (Spawn t u) q = refl
+  by_tests l h e q = grind arith
 
   -- so it is taken with no race exactly where it makes none and no test passes
   pub clean_passes : (l : Limits) (h : Past C) (e : Event C)

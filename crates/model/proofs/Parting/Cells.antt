@@ -1,5 +1,5 @@
 -- What a table of histories says of a cell, in the words of the rules.
-use Rattle.std.proofs.Common.{◌≡◌, ℕ, T, ◌∷◌, length, Some, None, Option, refl, ap, ◌∙◌, arith}
+use Rattle.std.proofs.Common.{◌≡◌, ℕ, not, ◌&&◌, T, leb, ◌∷◌, length, Some, None, Option, refl, ap, ◌∙◌, arith}
 use Rattle.model.specs.declared.Event.{Event}
 use Rattle.model.specs.declared.Event.TheVariants.{Read, Write}
 use Rattle.model.specs.declared.RaceKind.{RaceKind}
@@ -9,11 +9,11 @@ use Rattle.model.specs.declared.History.{History}
 use Rattle.model.specs.Past.{Past, at, actor}
 use Rattle.model.specs.Before.{before}
 use Rattle.model.specs.Accesses.{CellKind, reads, writes, accesses, is_access}
-use Rattle.model.specs.Cells.{last_write, left_read, right_read, cell_held}
+use Rattle.model.specs.Cells.{last_write, left_read, right_read, cell_held, cells_held}
 use Rattle.model.specs.Rules.{Limits, race_with, race_of}
 use Rattle.model.specs.Orders.{Order}
 use Rattle.model.specs.Link.{order_of, number, step_at}
-use Rattle.model.specs.Parts.{blank, parts_of, mark_at, history_of, history_in, after_mark, race_on, read_race, write_race}
+use Rattle.model.specs.Parts.{blank, parts_of, mark_at, history_of, history_in, after_mark, race_on, read_race, write_race, no_room}
 use Rattle.model.proofs.Shelf.Tests.{T-ext}
 use Rattle.model.proofs.Shelf.Places.{at_lt, at_any}
 use Rattle.model.proofs.Linking.Sound.{Known, Sound}
@@ -60,6 +60,11 @@ module _ {C : Type 0} (k : CellKind C) where
 
   pub history_is : (l : Limits) (h : Past C) (c : C) → history_in (parts_of k l h).cells c ≡ history_of k h c
   history_is l h c = grind (arith, blank_is)
+
+  -- there is no room for a cell where it was never touched and the table is full
+  pub room_is : (l : Limits) (h : Past C) (c : C)
+      → no_room (parts_of k l h).cells c ≡ (not (cell_held k h c) && leb l.cells (cells_held k h))
+  room_is l h c = grind arith
 
   -- whether a mark is up to the next access, by steps
   module _ (lim : ℕ) (h : Past C) (e : Event C) (s : Sound k h) (q : Known k h (actor e)) (a : T (is_access e)) where

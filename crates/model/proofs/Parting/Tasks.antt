@@ -1,8 +1,8 @@
 -- What the keeper says of a task, in the words of the rules.
 use Rattle.std.proofs.lemmas.Bool.Decides.{nat_tests}
-use Rattle.std.proofs.Common.{◌≡◌, ℕ, ◌+◌, ◌<◌, not, T, ltb, List, [], ◌∷◌, ◌++◌, Some, None, refl, ap, ◌∙◌, arith}
-use Rattle.model.specs.Lists.{is_empty, head_or}
-use Rattle.model.specs.Past.{Past, own, home, innermost, ended, lived_in}
+use Rattle.std.proofs.Common.{◌≡◌, ℕ, ◌+◌, ◌<◌, true, false, not, ◌||◌, T, eqb, ltb, List, [], ◌∷◌, ◌++◌, Some, None, refl, ap, ◌∙◌, arith}
+use Rattle.model.specs.Lists.{is_empty, head_or, some_or}
+use Rattle.model.specs.Past.{Past, own, home, innermost, made, ended, lived_in}
 use Rattle.model.specs.Accesses.{CellKind}
 use Rattle.model.specs.Rules.{Limits, steps_held}
 use Rattle.model.specs.Orders.{Order, gone, few, has_own, lived}
@@ -28,6 +28,10 @@ module _ {C : Type 0} (k : CellKind C) where
 
   pub task_unknown : (l : Limits) (h : Past C) (t : ℕ) → (Known k h t → ⊥) → task_number (parts_of k l h) t ≡ None
   task_unknown l h t n = grind arith
+
+  -- whether a name is taken
+  pub taken_name : (l : Limits) (h : Past C) (u : ℕ) → some_or (λ x. true) false (task_number (parts_of k l h) u) ≡ (eqb u 0 || made h u)
+  taken_name l h u = grind arith
 
   module _ (lim : ℕ) where
     -- the order that the keeper means

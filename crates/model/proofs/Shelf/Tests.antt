@@ -1,6 +1,6 @@
 -- What a passed and a failed test say, each way, and what an option holds.
 use Rattle.std.proofs.Math.Facts.{yes_eqb}
-use Rattle.std.proofs.Common.{◌≡◌, ℕ, Bool, true, false, cond, ◌||◌, T, eqb, ◌⊎◌, Some, None, Option, refl, inl, inr, eqb→eq, arith}
+use Rattle.std.proofs.Common.{◌≡◌, ℕ, Bool, true, false, cond, ◌||◌, T, eqb, ◌⊎◌, Some, None, Option, sym, refl, inl, inr, eqb→eq, arith}
 use Rattle.model.specs.Lists.{some_or}
 use Rattle.model.specs.Accesses.{CellKind}
 
@@ -32,6 +32,10 @@ pub or_r : (a b : Bool) → T b → T (a || b)
 or_r true b t = tt
 or_r false b t = t
 
+-- numbers
+pub eqb_sym : (m n : ℕ) → eqb m n ≡ eqb n m
+eqb_sym m n = T-ext (eqb m n) (eqb n m) (λ t. yes_eqb (sym (eqb→eq m n t))) (λ t. yes_eqb (sym (eqb→eq n m t)))
+
 -- cells
 pub same_sym : {C : Type 0} (k : CellKind C) (a b : C) → k.same a b ≡ k.same b a
 same_sym k a b = grind arith
@@ -50,6 +54,12 @@ cond_eq m n x y e = cond_yes (eqb m n) x y (yes_eqb e)
 
 pub cond_ne : {A : Type 0} (m n : ℕ) (x y : A) → (m ≡ n → ⊥) → cond (eqb m n) x y ≡ y
 cond_ne m n x y f = cond_no (eqb m n) x y (λ t. f (eqb→eq m n t))
+
+pub T-cond_yes : (b x y : Bool) → T b → T x → T (cond b x y)
+T-cond_yes b x y t s = grind arith
+
+pub T-cond_of : (b x y : Bool) → T (cond b x y) → (T b × T x) ⊎ ((T b → ⊥) × T y)
+T-cond_of b x y t = grind arith
 
 -- options
 pub some_or_of : {A : Type 0} (p : A → Bool) (o : Option A) → T (some_or p false o) → (x : A) × (o ≡ Some x) × T (p x)

@@ -15,6 +15,13 @@ use Rattle.model.proofs.Linking.Sound.{Known, HasEnded, Good, Sound, spawned_is}
 use Rattle.model.proofs.Linking.Finishes.{opens_le, own_has}
 use Rattle.model.proofs.Linking.Reach.{full_is, home_first}
 
+-- a finish that a task opened tells the task, and how many that had opened
+opener_of : (a x t n : ℕ) → opened_by a x ≡ opened_by t n → a ≡ t
+opener_of a x t n e = cc
+
+number_of : (a x t n : ℕ) → opened_by a x ≡ opened_by t n → x ≡ n
+number_of a x t n e = cc
+
 -- each number is larger than those that follow it
 abbrev Falls : List ℕ → Type 0
 Falls [] = Unit {0}
@@ -23,6 +30,11 @@ Falls (x ∷ l) = ((y : ℕ) → T (mem y l) → y < x) × Falls l
 falls_rest : (l : List ℕ) → Falls l → Falls (rest l)
 falls_rest [] f = tt
 falls_rest (x ∷ l) f = f.1
+
+-- what stands in the rest of a list stands in the list
+rest_mem : (n : ℕ) (l : List ℕ) → T (mem n (rest l)) → T (mem n l)
+rest_mem n [] q = q
+rest_mem n (x ∷ l) q = grind arith
 
 module _ {C : Type 0} where
   own_falls : (h : Past C) (t : ℕ) → Falls (own h t)
@@ -43,6 +55,10 @@ module _ {C : Type 0} (k : CellKind C) where
     pub gone : T (mem n (own h t)) → ⊥
     -- no task that runs lives in it
     pub empty : (v : ℕ) → Known k h v → (HasEnded k h v → ⊥) → home h v ≡ opened_by t n → ⊥
+
+  -- no task that runs has it innermost
+  shut_inner : (h : Past C) (t n a : ℕ) → Shut h t n → Known k h a → (HasEnded k h a → ⊥) → innermost h a ≡ opened_by t n → ⊥
+  shut_inner h t n a s q r e = grind arith
 
   -- no event brings a running task into it
   shut_home : (h : Past C) (e : Event C) (t n : ℕ) → Good k h e → Shut h t n

@@ -38,6 +38,10 @@ module _ {C : Type 0} (k : CellKind C) where
   too_late : (h : Past C) (j u t : ℕ) → Good k h (End u) → Sound k h → at h j ≡ Some (Close t) → innermost (behind h j) t ≡ home h u → ⊥
   too_late h j u t g s q z = let (n, i, x) = shut_at k h s j t q in x.empty u g.is_known g.runs (sym z ∙ i)
 
+  -- an end is no close
+  end_not_close : (u t : ℕ) {A : Type 0} → ◌≡◌ {A = Event C} (End u) (Close t) → A
+  end_not_close u t e = cc
+
   pub end_sooner : (h : Past C) → Sound k h → (i j u t : ℕ) → at h i ≡ Some (End u) → at h j ≡ Some (Close t)
       → innermost (behind h j) t ≡ home h u → i < j
   end_sooner [] s i j u t a b z = cc

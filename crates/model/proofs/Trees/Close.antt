@@ -60,6 +60,10 @@ module _ (m : Order) (lab node : ℕ → Label) (by owner : ℕ → ℕ) (sh : S
   f_held : f < m.finishes
   f_held = here.finish_held f (own_in f (inl refl))
 
+  -- t has opened the finish that closes
+  f_owner : owner f ≡ t
+  f_owner = grind (arith, own_above)
+
   not_twice : In f (g ∷ fs) → ⊥
   not_twice i = let h = (here.owns f f (own_above f f (inl (refl, i)))).1 in omega arith
 

@@ -32,6 +32,10 @@ module _ (m : Order) (lab node : ℕ → Label) (by owner : ℕ → ℕ) (sh : S
   last_split : (g l : ℕ) → T (n.last g l) → ((g ≡ f) × (l ≡ now)) ⊎ T (m.last g l)
   last_split g l h = grind arith
 
+  -- the task's own is one of the last steps
+  last_own : T (n.last f now)
+  last_own = grind arith
+
   last_old : (g l : ℕ) → T (m.last g l) → T (n.last g l)
   last_old g l h = grind arith
 

@@ -73,6 +73,14 @@ module _ {C : Type 0} where
     abbrev Tells : Option (Race C) → ℕ → ℕ → Option (Race C) → ℕ → Type 0
     Tells d j i m x = (j ≡ own) × (i ≡ own) × (m ≡ d) × (x ≡ n)
 
+    -- a seal that is answered with a verdict tells these
+    seal_tells : (d : Option (Race C)) (j i x : ℕ) (m : Option (Race C)) → seal_reply own n d j ≡ gave_verdict i m x → Tells d j i m x
+    seal_tells d j i x m q = grind arith
+
+    reply_tells : (g : Stage C) (j i x : ℕ) (m : Option (Race C))
+        → reply_by says own n g (Seal j) ≡ gave_verdict i m x → Tells (named g) j i m x
+    reply_tells g j i x m q = grind arith
+
 module _ {C : Type 0} (k : CellKind C) (o : Opening) (s : Standing C) where
   -- what the rules say to an event here
   abbrev says : Event C → Answer C
