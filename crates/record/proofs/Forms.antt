@@ -1,9 +1,10 @@
 -- A form is a byte and the form of what is left; it is never long.
-use Rattle.std.proofs.Common.{◌≡◌, ℕ, zero, suc, ◌+◌, ◌*◌, ◌/◌, ◌%◌, ◌^◌, ◌<◌, ◌≤◌, List, [], ◌∷◌, length, Option, Some, None, pow-suc, arith, length-append}
+use Rattle.std.proofs.Common.{◌≡◌, ℕ, zero, suc, ◌+◌, ◌*◌, ◌/◌, ◌%◌, ◌^◌, ◌<◌, ◌≤◌, List, [], ◌∷◌, ◌++◌, length, Option, Some, None, pow-suc, arith, length-append}
 use Rattle.std.proofs.lemmas.Bool.Decides.{nat_tests}
+use Rattle.std.proofs.lemmas.List.{append-nil}
 use Rattle.record.specs.declared.form.FormBytes.{FormBytes}
 use Rattle.record.specs.Numbers.{groups, number_form, numbers_form}
-use Rattle.record.specs.Forms.{form_of, form_left}
+use Rattle.record.specs.Forms.{form_of, form_left, NumberTaken}
 use Rattle.record.proofs.Groups.{groups_more}
 
 -- one group more than enough adds nothing
@@ -20,7 +21,7 @@ pub form_more : (n : ℕ) → 128 ≤ n → n < 2 ^ 63 → number_form n ≡ (12
 unfolding number_form
 form_more n h k = cc (groups_more 8 n h, groups_enough 8 (n / 128) (omega arith) (omega arith))
 
-groups_length : (k n : ℕ) → length (groups k n) ≤ k
+pub groups_length : (k n : ℕ) → length (groups k n) ≤ k
 groups_length zero n = omega arith
 groups_length (suc k) n = grind (arith, nat_tests, groups_length k (n / 128))
 
@@ -38,3 +39,11 @@ form_left_le f = omega (arith, length-append (form_of f.number) (numbers_form f.
     first : (n : Option ℕ) → length (form_of n) ≤ 9
     first None = omega arith
     first (Some n) = form_length n
+
+pub form_some : (n : ℕ) → 0 < length (number_form n)
+unfolding number_form
+form_some n = grind (arith, nat_tests)
+
+-- a number that is taken is a form of one number, before what is left
+pub form_taken : (f h : FormBytes) (n : ℕ) → NumberTaken f (Some n) h → (0 < length (number_form n ++ [])) × (form_left f ≡ (number_form n ++ []) ++ form_left h)
+form_taken f h n t = rw (append-nil (number_form n)) (form_some n, grind (arith, t))

@@ -3,6 +3,7 @@ pub mod Scanning
 pub mod Headings
 pub mod Reading
 pub mod Laying
+pub mod Passing
 pub mod Writing
 pub mod Forms
 pub mod OneNumber

@@ -7,7 +7,7 @@ use Rattle.model.specs.declared.Event.{Event}
 use Rattle.model.specs.declared.Event.TheVariants.{Spawn, End, Open, Close, Read, Write}
 use Rattle.record.specs.declared.fault.ByteFault.{ByteFault}
 use Rattle.record.specs.declared.fault.ByteFault.TheVariants.{Short, UnknownKind}
-use Rattle.record.specs.Numbers.{number_form, numbers_form, InRange}
+use Rattle.record.specs.Numbers.{number_form, numbers_form, InRange, NumbersRead, NumbersRefused}
 use Rattle.record.specs.Events.{kind_of, numbers_of, count_of, event_form, EventRead, EventRefused, nothing, unknown, stopped}
 use Rattle.record.specs.Laws.{EventsApart}
 use Rattle.record.proofs.OneNumber.{Out, got, fault, and_then, first_number, number_got, number_fault}
@@ -36,6 +36,27 @@ numbers_form_fault : (count : ℕ) (ns rest : List ℕ) (f : ByteFault) → InRa
 numbers_form_fault zero ns rest f h l e = absurd (omega arith)
 numbers_form_fault (suc k) [] rest f h l e = rw e
 numbers_form_fault (suc k) (n ∷ ns) rest f h l e = numbers_more k n ns rest (fault f) h.0 (numbers_form_fault k ns rest f h.1 (omega arith) e)
+
+numbers_got : (count : ℕ) (bs ns rest : List ℕ) → length ns ≡ count → NumbersRead bs ns rest → first_numbers count bs ≡ got ns rest
+numbers_got count bs ns rest l (h, e) = cc (numbers_form_got ns rest h)
+
+numbers_fault : (count : ℕ) (bs : List ℕ) (f : ByteFault) → NumbersRefused count bs f → first_numbers count bs ≡ fault f
+numbers_fault count bs f r = rw r.read.1 (numbers_form_fault count r.numbers r.rest f r.read.0 r.fewer (number_fault r.rest f r.why))
+
+-- no two lists of as many numbers have one form, and no form begins another
+pub numbers_prefix : (ms ns : List ℕ) (r s : List ℕ) → InRange ms → InRange ns → length ms ≡ length ns → numbers_form ms ++ r ≡ numbers_form ns ++ s → (ms ≡ ns) × (r ≡ s)
+numbers_prefix ms ns r s h k l e =
+    let p = numbers_form_got ms r h in
+    let q = numbers_form_got ns s k in
+    (cc, cc)
+
+-- numbers that are read are not refused
+pub numbers_not_refused : (count : ℕ) (bs ns rest : List ℕ) (f : ByteFault) → length ns ≡ count → NumbersRead bs ns rest → NumbersRefused count bs f → ⊥
+numbers_not_refused count bs ns rest f l r q = cc (numbers_got count bs ns rest l r, numbers_fault count bs f q)
+
+-- numbers are refused for at most one reason
+pub numbers_one_fault : (count : ℕ) (bs : List ℕ) (f g : ByteFault) → NumbersRefused count bs f → NumbersRefused count bs g → f ≡ g
+numbers_one_fault count bs f g p q = cc (numbers_fault count bs f p, numbers_fault count bs g q)
 
 cell : List ℕ → Cell
 cell ns = record { mailbox = get_or ns 1 0; block = get_or ns 2 0 }
@@ -71,7 +92,7 @@ event_fault bs _ (nothing e) = ap first_event e
 event_fault bs _ (unknown k more e h) = let other : known k ≡ false = grind (arith, nat_tests) in rw (e, other)
 event_fault bs _ (stopped k more f e low high r) =
     let there : known k ≡ true = grind (arith, nat_tests) in
-    rw (e, there, r.read.1, numbers_form_fault (count_of k) r.numbers r.rest f r.read.0 r.fewer (number_fault r.rest f r.why))
+    rw (e, there, numbers_fault (count_of k) more f r)
 
 pub events_apart : EventsApart
 events_apart d e r s h k eq =

@@ -4,12 +4,14 @@ use Rattle.model.specs.declared.Cell.{Cell}
 use Rattle.model.specs.declared.Event.{Event}
 use Rattle.record.specs.declared.fault.ByteFault.{ByteFault}
 use Rattle.record.specs.Numbers.{NumberRead, NumberRefused}
+use Rattle.record.specs.Heading.{HeadingRead, HeadingRefused}
 use Rattle.record.specs.Events.{EventRead, EventRefused}
 use Rattle.record.specs.Laws.{NumbersApart}
 use Rattle.record.specs.Examples.{NumberExamples}
-use Rattle.record.specs.Answers.{Answer, OnlyAnswer}
+use Rattle.record.specs.Answers.{Answer, OnlyAnswer, RestAnswer, OnlyRest}
 use Rattle.record.proofs.OneNumber.{numbers_apart, number_not_refused, number_one_fault}
 use Rattle.record.proofs.OneEvent.{events_apart, event_not_refused, event_one_fault}
+use Rattle.record.proofs.OneHeading.{heading_back, heading_not_refused, heading_one_fault}
 use Rattle.record.proofs.ByExample.{number_examples}
 
 -- a reading that gives at most one value, refuses for at most one reason, and never does both
@@ -23,6 +25,10 @@ number_only = only NumberRead NumberRefused (λ bs m n r s p q. numbers_apart m 
 
 pub event_only : (bs : List ℕ) (r : Result (Event Cell × Bor (List ℕ)) ByteFault) → Answer EventRead EventRefused bs r → OnlyAnswer EventRead EventRefused bs r
 event_only = only EventRead EventRefused (λ bs d e r s p q. events_apart d e r s p.0 q.0 (sym p.1 ∙ q.1)) event_not_refused event_one_fault
+
+pub heading_only : (bs : List ℕ) (r : Result (Bor (List ℕ)) ByteFault) → RestAnswer HeadingRead HeadingRefused bs r → OnlyRest HeadingRead HeadingRefused bs r
+heading_only bs (Ok p) h = (λ rest k. heading_back bs p.now rest h k, λ f k. heading_not_refused bs p.now f h k)
+heading_only bs (Err g) h = (λ rest k. heading_not_refused bs rest g k h, λ f k. heading_one_fault bs g f h k)
 
 -- all that is promised of a call that reads a number follows from its first clause
 abbrev pub NumberClauses : List ℕ → Result (ℕ × Bor (List ℕ)) ByteFault → Type 0

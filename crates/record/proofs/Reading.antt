@@ -4,10 +4,18 @@ use Rattle.std.proofs.lemmas.Bool.Decides.{nat_tests}
 use Rattle.record.specs.declared.fault.ByteFault.{ByteFault}
 use Rattle.record.specs.declared.kind.Kind.{Kind}
 use Rattle.record.specs.declared.kind.Kind.TheVariants.{Spawn}
-use Rattle.record.specs.Numbers.{NumberRead, NumberRefused, NumbersRefused}
+use Rattle.record.specs.Numbers.{NumberRead, NumberRefused, NumbersRead, NumbersRefused}
 use Rattle.record.specs.Kinds.{byte_of, KindRead}
 use Rattle.record.specs.Events.{count_of, EventRefused}
 use Rattle.record.specs.Events.EventRefused.{stopped, unknown}
+
+-- a number, and numbers after it
+pub numbers_more : (bs : List ℕ) (n : ℕ) (mid ns rest : List ℕ) → NumberRead bs n mid → NumbersRead mid ns rest → NumbersRead bs (n ∷ ns) rest
+numbers_more bs n mid ns rest p q = ((p.0, q.0), rw (p.1, q.1, append_assoc))
+
+-- a number alone
+pub numbers_one : (bs : List ℕ) (n : ℕ) (rest : List ℕ) → NumberRead bs n rest → NumbersRead bs (n ∷ []) rest
+numbers_one bs n rest p = numbers_more bs n rest [] rest p (tt, refl)
 
 -- the next number is refused
 pub numbers_stop : (k : ℕ) (bs : List ℕ) (f : ByteFault) → 0 < k → NumberRefused bs f → NumbersRefused k bs f
@@ -18,7 +26,7 @@ pub numbers_later : (k : ℕ) (bs : List ℕ) (n : ℕ) (mid : List ℕ) (f : By
 numbers_later k bs n mid f p q = record {
   numbers = n ∷ q.numbers;
   rest = q.rest;
-  read = ((p.0, q.read.0), rw (p.1, q.read.1, append_assoc));
+  read = numbers_more bs n mid q.numbers q.rest p q.read;
   fewer = omega (arith, q.fewer);
   why = q.why;
 }

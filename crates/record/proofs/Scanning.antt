@@ -31,6 +31,10 @@ so_far_none bytes = record {
 regroup : (value weight c m : ℕ) → value + (c + m * 128) * weight ≡ value + c * weight + m * (weight * 128)
 regroup value weight c m = grind arith
 
+-- one more group fits 64 bits
+pub group_fits : (i c value weight : ℕ) → i ≤ 8 → c < 128 → value < weight → weight ≡ 128 ^ i → value + c * weight < weight * 128
+group_fits i c value weight h k l e = grind (arith, mul-le-mul_right)
+
 -- b is the byte at i, which is one of the first nine
 pub record ByteAt (bytes : List ℕ) (i b : ℕ) : Type 0 where
   pub ninth : i < 9
@@ -49,10 +53,11 @@ module _ (bytes : List ℕ) (i value weight : ℕ) (s : SoFar bytes i value weig
   value_below : (c : ℕ) → c < 128 → value + c * weight < weight * 128
   value_below c k = let p : c * weight ≤ 127 * weight = mul-le-mul_right weight (omega arith) in omega (arith, s.below)
 
+  pub weight_fits : i < 9 → weight ≤ 2 ^ 56
+  weight_fits h = rw s.weighs (pow-le-pow_right {n = 128} (lit< tt) {i = i} {j = 8} (omega arith))
+
   pub value_fits : (c : ℕ) → i < 9 → c < 128 → value + c * weight < 2 ^ 63
-  value_fits c h k =
-      let w : weight ≤ 2 ^ 56 = rw s.weighs (pow-le-pow_right {n = 128} (lit< tt) {i = i} {j = 8} (omega arith)) in
-      omega (arith, value_below c k)
+  value_fits c h k = omega (arith, value_below c k, weight_fits h)
 
   left_over : i < 9 → 9 - i ≡ suc (9 - (i + 1))
   left_over h = omega arith

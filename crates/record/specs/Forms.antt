@@ -1,5 +1,5 @@
 -- What is still to come of numbers' forms.
-use Rattle.std.specs.Prelude.{◌≡◌, ℕ, ◌^◌, ◌<◌, List, [], ◌++◌, Option, Some, None, Ok, Err, Result}
+use Rattle.std.specs.Prelude.{◌≡◌, ℕ, ◌^◌, ◌<◌, List, [], ◌++◌, length, Option, Some, None, Ok, Err, Result}
 use Rattle.record.specs.declared.fault.ByteFault.{ByteFault}
 use Rattle.record.specs.declared.fault.ByteFault.TheVariants.{TooLarge}
 use Rattle.record.specs.declared.form.FormBytes.{FormBytes}
@@ -23,3 +23,8 @@ Formed ns (Err f) = (InRange ns → ⊥) × (f ≡ TooLarge)
 abbrev pub NumberTaken : FormBytes → Option ℕ → FormBytes → Type 0
 NumberTaken f None g = (form_left f ≡ []) × (form_left g ≡ [])
 NumberTaken f (Some n) g = (n < 2 ^ 63) × (g.number ≡ None) × (form_left f ≡ number_form n ++ numbers_form g.rest.now)
+
+-- the bytes g of the number that comes first of f, which is h then; none where nothing is to come
+abbrev pub FormTaken : FormBytes → Option FormBytes → FormBytes → Type 0
+FormTaken f None h = (form_left f ≡ []) × (form_left h ≡ [])
+FormTaken f (Some g) h = (g.rest.now ≡ []) × (0 < length (form_left g)) × (form_left f ≡ form_left g ++ form_left h)

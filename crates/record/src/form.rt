@@ -5,7 +5,7 @@ ghost use Rattle.std.specs.Option.{ForSome};
 ghost use Rattle.record.specs.Numbers.{InRange};
 
 use crate::fault::ByteFault;
-use crate::number::{GOES_ON, GROUP};
+use crate::number::{GOES_ON, GROUP, LONGEST};
 use model::LARGEST;
 
 // What is still to come: the groups of `number`, the lowest first, and then the forms of `rest`. A `flat_map` over the numbers
@@ -45,9 +45,9 @@ impl<'a> TryFrom<&'a [u64]> for FormBytes<'a> {
     }
 }
 
-impl FormBytes<'_> {
+impl<'a> FormBytes<'a> {
     ghost use Rattle.std.specs.Prelude.{◌≡◌, ◌+◌, ◌*◌, ◌≤◌, length};
-    ghost use Rattle.record.specs.Forms.{form_left, NumberTaken};
+    ghost use Rattle.record.specs.Forms.{form_left, NumberTaken, FormTaken};
 
     // Takes the number whose next group is to come: what is left of one, or else the first of the rest.
     fn next_number(&mut self) -> Option<u64>
@@ -61,8 +61,41 @@ impl FormBytes<'_> {
         Some(*first)
     }
 
+    // The bytes of the next number alone, which are then no longer to come. To go over the bytes number by number takes less time
+    // than to go over all at once.
+    pub(crate) fn next_form(&mut self) -> Option<FormBytes<'a>>
+        ensures { FormTaken self.old result self.new }
+    {
+        let number = self.next_number()?;
+        Some(FormBytes {
+            number: Some(number),
+            rest: &[],
+        })
+    }
+
+    // No fewer bytes than are still to come.
+    pub(crate) fn at_most(&self) -> usize
+        ensures value { result ≡ 9 + 9 * length self.now.rest.now }
+        ensures bound { length (form_left self.now) ≤ result }
+    {
+        LONGEST + LONGEST * self.rest.len()
+    }
+
     // How many bytes are still to come.
     pub(crate) fn width(&self) -> usize
+        ensures value { result ≡ length (form_left self.now) }
+        ensures bound { result ≤ 9 + 9 * length self.now.rest.now }
+    {
+        let mut width = 0;
+        let mut left = *self;
+        while let Some(number) = left.next_form() {
+            width += number.counted();
+        }
+        width
+    }
+
+    // The same, counted byte by byte.
+    fn counted(&self) -> usize
         ensures value { result ≡ length (form_left self.now) }
         ensures bound { result ≤ 9 + 9 * length self.now.rest.now }
     {

@@ -7,7 +7,7 @@ ghost use Rattle.record.specs.Examples.{NumberExamples};
 use crate::fault::ByteFault;
 
 // The most bytes that a number has.
-const LONGEST: usize = 9;
+pub(crate) const LONGEST: usize = 9;
 
 // A byte from here on has its high bit set, and another follows it.
 pub(crate) const GOES_ON: u8 = 128;
