@@ -1,2 +1,4 @@
+pub mod Walking
 pub mod OneListing
 pub mod Parts
+pub mod Rows

@@ -15,7 +15,7 @@ use Rattle.listing.specs.declared.error.ListError.{ListError}
 use Rattle.listing.specs.declared.error.ListError.TheVariants.{Refused, OutOfMemory}
 use Rattle.listing.specs.declared.file.Listing.{Listing}
 use Rattle.listing.specs.Listings.{Tells}
-use Rattle.listing.specs.Files.{events_form, EventsRead, NoJob, Listed, OnlyListing, ReadsBack}
+use Rattle.listing.specs.Files.{events_form, EventsRead, NoJob, Listed, OnlyListing, ReadsBack, WritesBack}
 
 -- what follows the events, at place `at`: nothing, or what f refuses
 abbrev Ends : ℕ → List ℕ → Option ByteRefusal → Type 0
@@ -51,11 +51,15 @@ one_end at rest None (Some g) h k = absurd (omega (arith, ap length h))
 one_end at rest (Some f) None h k = absurd (omega (arith, ap length k))
 one_end at rest (Some f) (Some g) h k = ap Some (same_refusal f g (event_one_fault rest f.fault g.fault h.2 k.2) (h.1 ∙ sym k.1))
 
+-- no events stand where none begins
+no_first : (d : Event Cell) (ds : List (Event Cell)) (r s : List ℕ) → AllByRecursion Writable (d ∷ ds) → NoEvent r → r ≡ events_form (d ∷ ds) ++ s → ⊥
+no_first d ds r s h n e = n d (events_form ds ++ s) (h.0, rw append_assoc at e)
+
 -- the same bytes hold the same events, if no further event follows either
 events_once : (es ds : List (Event Cell)) (r s : List ℕ) → AllByRecursion Writable es → AllByRecursion Writable ds → NoEvent r → NoEvent s → events_form es ++ r ≡ events_form ds ++ s → (es ≡ ds) × (r ≡ s)
 events_once [] [] r s h k m n q = (refl, q)
-events_once [] (d ∷ ds) r s h k m n q = absurd (m d (events_form ds ++ s) (k.0, rw append_assoc at q))
-events_once (e ∷ es) [] r s h k m n q = absurd (n e (events_form es ++ r) (h.0, rw append_assoc at (sym q)))
+events_once [] (d ∷ ds) r s h k m n q = absurd (no_first d ds r s k m q)
+events_once (e ∷ es) [] r s h k m n q = absurd (no_first e es s r h n (sym q))
 events_once (e ∷ es) (d ∷ ds) r s h k m n q =
     let first = events_apart e d (events_form es ++ r) (events_form ds ++ s) h.0 k.0 (simp append_assoc at q) in
     let after = events_once es ds r s h.1 k.1 m n first.1 in
@@ -81,6 +85,10 @@ pub job_or_none : (bs : List ℕ) (f : ByteRefusal) (job : ℕ) (rest : List ℕ
 job_or_none bs f job rest (inl h) l e = heading_not_refused bs (number_form job ++ rest) f.fault e h.1
 job_or_none bs f job rest (inr h) l e = number_not_refused h.0 job rest f.fault (l, heading_back bs h.0 (number_form job ++ rest) h.1 e) h.3
 
+-- the same bytes hold the same job, and the same follows it
+jobs_once : (bs : List ℕ) (m n : ℕ) (r s : List ℕ) → m < 2 ^ 63 → n < 2 ^ 63 → bs ≡ heading ++ (number_form m ++ r) → bs ≡ heading ++ (number_form n ++ s) → (m ≡ n) × (r ≡ s)
+jobs_once bs m n r s h k p q = numbers_apart m n r s h k (heading_back bs (number_form m ++ r) (number_form n ++ s) p q)
+
 pub only_listing : (bs : List ℕ) (job : Option ℕ) (es : List (Event Cell)) (f : Option ByteRefusal) → Listed bs job es f → OnlyListing bs job es f
 only_listing bs None es None h job' es' f' k = absurd h
 only_listing bs None es (Some f) h None es' None k = absurd k
@@ -89,12 +97,17 @@ only_listing bs None es (Some f) h (Some n) es' f' k = absurd (job_or_none bs f 
 only_listing bs (Some n) es f h None es' None k = absurd k
 only_listing bs (Some n) es f h None es' (Some f') k = absurd (job_or_none bs f' n h.1.0 k.1 h.0 h.1.1)
 only_listing bs (Some m) es f h (Some n) es' f' k =
-    let one = numbers_apart m n h.1.0 k.1.0 h.0 k.0 (heading_back bs (number_form m ++ h.1.0) (number_form n ++ k.1.0) h.1.1 k.1.1) in
+    let one = jobs_once bs m n h.1.0 k.1.0 h.0 k.0 h.1.1 k.1.1 in
     let all = only_events (4 + length (number_form m)) h.1.0 es es' f f' h.1.2 (rw (one.0, one.1) k.1.2) in
     (ap Some one.0, all.0, all.1)
 
 pub reads_back : (bs : List ℕ) (job : Option ℕ) (es : List (Event Cell)) (f : Option ByteRefusal) → Listed bs job es f → ReadsBack bs job es f
 reads_back bs job es f h n ds fits e = only_listing bs job es f h (Some n) ds None (fits.0, (events_form ds, e, (fits.1, refl)))
+
+pub writes_back : (bs : List ℕ) (job : Option ℕ) (es : List (Event Cell)) (f : Option ByteRefusal) → Listed bs job es f → WritesBack bs job es f
+writes_back bs job es f h n p q =
+    let k = rw (p, q) at h in
+    ((k.0, k.1.2.0), rw (← k.1.2.1) k.1.1)
 
 -- what follows of each listing follows of an answer
 told_more : (P Q : Option ℕ → List (Event Cell) → Option ByteRefusal → Type 0) → ((job : Option ℕ) (es : List (Event Cell)) (f : Option ByteRefusal) → P job es f → Q job es f) → (r : Result Listing ListError) → Tells P r → Tells Q r

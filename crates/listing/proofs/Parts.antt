@@ -1,7 +1,8 @@
 -- Parts written one after another.
 use Rattle.std.proofs.Common.{◌≡◌, ℕ, ◌+◌, ◌<◌, ◌≤◌, List, [], ◌∷◌, ◌++◌, length, get_or, take, drop, Ok, Err, Result, sym, refl, ap, ◌∙◌, arith, length-append}
 use Rattle.std.specs.List.{AllByRecursion}
-use Rattle.std.proofs.lemmas.List.{flat_map_more, map_more, map-append, drop_more, take-append-drop}
+use Rattle.std.proofs.lemmas.List.{flat_map_more, map_more, map-append, append_assoc, append-nil, drop_more, drop_all, take-append-drop}
+use Rattle.std.proofs.ByRecursion.{All-append}
 use Rattle.std.proofs.lemmas.List.Folds.{flat_map-map}
 use Rattle.std.proofs.lemmas.Grind.{flat_map-append}
 use Rattle.model.specs.declared.Cell.{Cell}
@@ -13,7 +14,7 @@ use Rattle.record.specs.Numbers.{InRange}
 use Rattle.record.specs.Events.{numbers_of, event_form, file_form, Writable}
 use Rattle.record.specs.Writes.{laid, WriteRefused, Written}
 use Rattle.record.proofs.Laying.{laid_none, laid_append, laid_length}
-use Rattle.listing.specs.Files.{Part, event_part, event_parts, file_parts, parts_form, WriteStopped, PartsWritten, FileWritten}
+use Rattle.listing.specs.Files.{Part, heading_part, event_part, event_parts, file_parts, parts_form, WriteStopped, PartsWritten, FileWritten}
 
 -- each number in the parts has a form
 abbrev AllFit : List Part → Type 0
@@ -64,6 +65,41 @@ module _ (ps : List Part) (buf : List ℕ) (from end : ℕ) (mid : List ℕ) (so
     why = rw place (refused_alike p.0 p.1 mid buf end r.fault long why);
   }
 
+-- some parts, and then others
+module _ (ps qs : List Part) (buf : List ℕ) (from end : ℕ) (mid : List ℕ) (so : SoWritten ps buf from end mid) where
+  mid_length : length mid ≡ length buf
+  mid_length = long ps buf from end mid so heading_part
+
+  -- what is laid after ps is laid after their form
+  over_both : (rs : List Part) (after : List ℕ) → after ≡ laid mid end (parts_form rs) → after ≡ laid buf from (parts_form (ps ++ rs))
+  over_both rs after e = rw (e, so.3, so.2, flat_map-append part_form ps rs) (laid_append buf from (parts_form ps) (parts_form rs) so.1)
+
+  long_both : (rs : List Part) → from + length (parts_form (ps ++ rs)) ≡ end + length (parts_form rs)
+  long_both rs = rw (flat_map-append part_form ps rs) (omega (arith, so.2, length-append {A = ℕ}))
+
+  pub written_then : (r : Result ℕ ByteRefusal) (after : List ℕ) → PartsWritten qs mid end r after → PartsWritten (ps ++ qs) buf from r after
+  written_then (Ok last) after (fit, room, is, over) =
+      (All-append (λ p. InRange p.0) ps qs so.0 fit, omega (arith, long_both qs, mid_length), omega (arith, long_both qs), over_both qs after over)
+  written_then (Err r) after w = record {
+    done = ps ++ w.done;
+    part = w.part;
+    more = w.more;
+    split = rw (w.split, append_assoc);
+    fit = All-append (λ p. InRange p.0) ps w.done so.0 w.fit;
+    place = w.place ∙ sym (long_both w.done);
+    room = omega (arith, long_both w.done, mid_length, w.room);
+    over = over_both w.done after w.over;
+    why = refused_alike w.part.0 w.part.1 mid buf r.place r.fault mid_length w.why;
+  }
+
+-- one part, and then others
+module _ (p : Part) (buf : List ℕ) (from end : ℕ) (mid : List ℕ) (w : Written p.0 p.1 buf from (Ok end) mid) where
+  pub written_on : (qs : List Part) (r : Result ℕ ByteRefusal) (after : List ℕ) → PartsWritten qs mid end r after → PartsWritten (p ∷ qs) buf from r after
+  written_on qs = written_then (p ∷ []) qs buf from end mid (so_more [] buf from from buf (so_none buf from (omega arith)) p end mid w)
+
+  pub room_after : end ≤ length mid
+  room_after = omega (arith, ap length w.3, laid_length buf from p.1 w.1)
+
 -- the events of a file, the i-th of them next
 module _ (job : ℕ) (es : List (Event Cell)) (i : ℕ) (d : Event Cell) (within : i < length es) (buf : List ℕ) (from end : ℕ) (mid : List ℕ) (so : SoWritten (file_parts job (take i es)) buf from end mid) where
   pub events_more : (next : ℕ) (after : List ℕ) → Written (numbers_of (get_or es i d)) (event_form (get_or es i d)) mid end (Ok next) after → SoWritten (file_parts job (take (i + 1) es)) buf from next after
@@ -107,3 +143,7 @@ file_written job es buf (Err r) after w = λ fit.
     let fits : InRange w.part.0 = fit_part w.done w.part w.more (rw (← w.split) (tt, ((fit.0, tt), fit_parts es fit.1))) in
     let short : length buf < r.place + length w.part.1 = no_room w.part.0 w.part.1 buf r.place r.fault fits w.why in
     omega (arith, w.place, ap length (file_parts_form job es), ap length whole, length-append {A = ℕ})
+
+-- a form laid over a buffer that is as long is all that it holds
+pub laid_whole : (buf bs : List ℕ) → length bs ≡ length buf → laid buf 0 bs ≡ bs
+laid_whole buf bs e = rw (drop_all (0 + length bs) buf (omega arith), append-nil)

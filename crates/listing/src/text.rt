@@ -35,7 +35,8 @@ impl Listing {
         ensures { let l = self.now in
             IfOk result (λ v. v.items ≡ lines_of (length bytes.now) (Some l.job) l.events.items l.refusal) }
     {
-        let mut lines = vec![in alloc; Line::Job { job: self.job }]?;
+        let mut lines = Vec::new(alloc);
+        lines.push(Line::Job { job: self.job })?;
         push_events(&mut lines, self.events.as_slice())?;
         lines.push(match self.refusal {
             Some(refusal) => Line::Refused { refusal },
